@@ -22,12 +22,12 @@ abbrev pub trace-number : TraceFault → ℕ
 trace-number AlreadyHeld = 5
 trace-number NotHolder = 6
 
--- an answer, with a refusal told by its number
-abbrev pub told : {A F : Type 0} → (F → ℕ) → Result A F → Result A ℕ
-told number (Ok x) = Ok x
-told number (Err f) = Err (number f)
+-- an answer, with a refusal told in other terms, as by its number
+abbrev pub told : {A F G : Type 0} → (F → G) → Result A F → Result A G
+told tell (Ok x) = Ok x
+told tell (Err f) = Err (tell f)
 
--- the number of the refusal in an answer, if it is one
-abbrev pub refusal-in : {A F : Type 0} → (F → ℕ) → Result A F → Option ℕ
-refusal-in number (Ok x) = None
-refusal-in number (Err f) = Some (number f)
+-- the refusal in an answer, in such terms, if it is one
+abbrev pub refusal-in : {A F G : Type 0} → (F → G) → Result A F → Option G
+refusal-in tell (Ok x) = None
+refusal-in tell (Err f) = Some (tell f)

@@ -4,3 +4,5 @@ pub mod kind;
 pub mod limits;
 pub mod locks;
 pub mod record;
+#[cfg(test)]
+mod tests;

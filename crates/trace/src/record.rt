@@ -8,6 +8,9 @@ use crate::event::Event;
 use crate::kind::Kind;
 use crate::limits::THREADS;
 
+/// How many bytes a record has.
+pub const RECORD: usize = 8;
+
 /// Why bytes are no record, in the order in which it is looked for.
 #[derive(Clone, Copy, PartialEq, Eq, Debug)]
 pub enum RecordFault {

@@ -41,7 +41,7 @@ pub impl Reel for BoardReel as BoardReelReel {
         if k >= self.table.count {
             return None;
         }
-        Some(self.table.entries[k])
+        Some(self.table.at(k))
     }
 
     fn take(&mut self, e: Event) -> Result<(), ReelFault> {

@@ -1,0 +1,5 @@
+//! A session over a reel: records go in one after another, and what they hold can be asked for.
+pub mod fault;
+pub mod session;
+#[cfg(test)]
+mod tests;

@@ -1,0 +1,156 @@
+//! Sessions over both reels on a few records.
+use crate::fault::EntryRefusal;
+use crate::fault::Layer;
+use crate::fault::LayerDebug;
+use crate::fault::LayerPartialEq;
+use crate::session::Session;
+use reel::Reel;
+use reel::board::BoardReel;
+use reel::board::BoardReelReel;
+use reel::host::HostReel;
+use reel::host::HostReelReel;
+use std::test::*;
+
+const READ: u8 = 1;
+
+const WRITE: u8 = 2;
+
+const ACQUIRE: u8 = 3;
+
+const RELEASE: u8 = 4;
+
+fn record(kind: u8, thread: u8, subject: u16) -> [u8; 8] {
+    let [low, high] = subject.to_le_bytes();
+    [kind, thread, low, high, 7, 0, 0, 0]
+}
+
+/// The number, the layer and the index of a refusal.
+fn refused<T: Drop>(answer: Result<T, EntryRefusal>) -> Option<(u8, Layer, usize)> {
+    match answer {
+        Ok(_) => None,
+        Err(refusal) => Some((refusal.fault.number(), refusal.fault.layer(), refusal.index)),
+    }
+}
+
+/// The trace check and the limits, at a session with room for four events at least.
+fn enters<R: Reel + Drop>(reel: R) -> Result<(), Fail> {
+    let mut session = Session::open(reel);
+    check_eq(refused(session.enter(&record(ACQUIRE, 0, 0))), None)?;
+    check_eq(
+        refused(session.enter(&record(RELEASE, 1, 0))),
+        Some((6, Layer::Trace, 0)),
+    )?;
+    check_eq(
+        refused(session.enter(&record(ACQUIRE, 0, 0))),
+        Some((5, Layer::Trace, 0)),
+    )?;
+    check_eq(refused(session.enter(&record(WRITE, 15, 1023))), None)?;
+    check_eq(
+        refused(session.enter(&record(READ, 15, 1024))),
+        Some((4, Layer::Record, 0)),
+    )?;
+    check_eq(refused(session.enter(&record(ACQUIRE, 2, 63))), None)?;
+    check_eq(
+        refused(session.enter(&record(ACQUIRE, 2, 64))),
+        Some((4, Layer::Record, 0)),
+    )?;
+    check_eq(session.count(), 3)?;
+    let Some(event) = session.event(1) else {
+        return Err(Fail::new("no event"));
+    };
+    check_eq((event.thread, event.subject, event.site), (15, 1023, 7))?;
+    check(session.event(3).is_none())
+}
+
+/// Loads, at a session with room for four events at least.
+fn loads<R: Reel + Drop>(reel: R) -> Result<(), Fail> {
+    let mut session = Session::open(reel);
+    check_eq(session.load(&[]).ok(), Some(0))?;
+    check_eq(refused(session.load(&[1; 17])), Some((1, Layer::Record, 2)))?;
+    check_eq(session.count(), 0)?;
+    // 0a5 0z5 0z5 0r5: the third record is refused
+    let dump = [
+        3,
+        0,
+        5,
+        0,
+        7,
+        0,
+        0,
+        0,
+        4,
+        0,
+        5,
+        0,
+        7,
+        0,
+        0,
+        0,
+        4,
+        0,
+        5,
+        0,
+        7,
+        0,
+        0,
+        0,
+        1,
+        0,
+        5,
+        0,
+        7,
+        0,
+        0,
+        0,
+    ];
+    check_eq(refused(session.load(&dump)), Some((6, Layer::Trace, 2)))?;
+    check_eq(session.count(), 2)?;
+    check_eq(session.load(&dump[0..16]).ok(), Some(2))?;
+    check_eq(
+        refused(session.enter_all(&dump[0..12])),
+        Some((1, Layer::Record, 1)),
+    )?;
+    check_eq(session.count(), 5)
+}
+
+#[test]
+fn over_a_board_reel() -> Result<(), Fail> {
+    enters(BoardReel::new())?;
+    loads(BoardReel::new())
+}
+
+#[test]
+fn over_a_host_reel() -> Result<(), Fail> {
+    let mut bytes = [0xff; 47];
+    enters(HostReel::over(&mut bytes))?;
+    loads(HostReel::over(&mut bytes))
+}
+
+fn full<R: Reel + Drop>(reel: R, room: usize) -> Result<(), Fail> {
+    let mut session = Session::open(reel);
+    check_eq(session.capacity(), room)?;
+    for k in 0..room {
+        let subject = (k % 1024) as u16;
+        check_eq(refused(session.enter(&record(READ, 0, subject))), None)?;
+    }
+    check_eq(
+        refused(session.enter(&record(READ, 0, 0))),
+        Some((7, Layer::Reel, 0)),
+    )?;
+    check_eq(
+        refused(session.load(&record(READ, 0, 0))),
+        Some((7, Layer::Reel, 0)),
+    )?;
+    check_eq(
+        refused(session.enter(&record(RELEASE, 0, 0))),
+        Some((6, Layer::Trace, 0)),
+    )?;
+    check_eq(session.count(), room)
+}
+
+#[test]
+fn full_reels() -> Result<(), Fail> {
+    full(BoardReel::new(), 1024)?;
+    full(HostReel::over(&mut []), 0)?;
+    full(HostReel::over(&mut [0; 23]), 2)
+}
