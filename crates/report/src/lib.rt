@@ -1,2 +1,3 @@
 //! The texts that the programs print.
 pub mod listing;
+pub mod questions;

@@ -1,3 +1,7 @@
 -- The lemmas, each file after those that it uses.
 pub mod Entries
 pub mod Loads
+pub mod Asked
+pub mod Racing
+pub mod Collecting
+pub mod Listings

@@ -3,9 +3,11 @@ use Prim.Native.Nat.{ℕ}
 use Rattle.trace.specs.Faults.{record-number, trace-number}
 use Rattle.reel.specs.Reels.{reel-number}
 use Rattle.session.specs.declared.fault.Layer.{Layer}
-use Rattle.session.specs.declared.fault.Layer.the-variants.{Record, Trace, Reel}
+use Rattle.session.specs.declared.fault.Layer.the-variants.{Record, Trace, Reel, Pair}
 use Rattle.session.specs.declared.fault.EntryFault.{EntryFault}
 use Rattle.session.specs.declared.fault.EntryFault.the-variants.{Record as ByRecord, Trace as ByTrace, Reel as ByReel}
+use Rattle.session.specs.declared.fault.PairFault.{PairFault}
+use Rattle.session.specs.declared.fault.PairFault.the-variants.{NoEvent, Order, NoConflict}
 use Rattle.session.specs.declared.fault.EntryRefusal.{EntryRefusal}
 
 -- the number of a refusal of a record
@@ -19,6 +21,16 @@ abbrev pub entry-layer : EntryFault → Layer
 entry-layer (ByRecord f) = Record
 entry-layer (ByTrace f) = Trace
 entry-layer (ByReel f) = Reel
+
+-- the number of a refusal of a question about two positions
+abbrev pub pair-number : PairFault → ℕ
+pair-number NoEvent = 8
+pair-number Order = 9
+pair-number NoConflict = 10
+
+-- the layer that refuses it
+abbrev pub pair-layer : PairFault → Layer
+pair-layer f = Pair
 
 -- a refusal as its reader sees it: the number, the layer, and the index of the record
 pub record Refusal : Type 0 where

@@ -1,3 +1,6 @@
 -- The definitions that the contracts cite.
 pub mod Faults
 pub mod Entries
+pub mod Questions
+pub mod Buffers
+pub mod Races

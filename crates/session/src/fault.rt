@@ -1,7 +1,7 @@
-//! Why a session refuses a record.
+//! Why a session refuses a record or a question.
 ghost use mathlib.Core.Path.{_≡_};
 ghost use Rattle.session.specs.declared.fault.EntryFault.the-variants.{Record, Trace, Reel};
-ghost use Rattle.session.specs.Faults.{entry-number, entry-layer};
+ghost use Rattle.session.specs.Faults.{entry-number, entry-layer, pair-number, pair-layer};
 use reel::ReelFault;
 use reel::ReelFaultDebug;
 use reel::ReelFaultPartialEq;
@@ -21,6 +21,8 @@ pub enum Layer {
     Trace,
     /// The reel is full.
     Reel,
+    /// The two positions cannot be asked about.
+    Pair,
 }
 
 /// Why a record is not taken: the fault of the layer that refuses it, whole.
@@ -76,6 +78,37 @@ pub impl From<ReelFault> for EntryFault as EntryFaultFromReel {
 
     fn from(fault: ReelFault) -> EntryFault {
         EntryFault::Reel(fault)
+    }
+}
+
+/// Why two positions cannot be asked about, in the order in which it is looked for.
+#[derive(Clone, Copy, PartialEq, Eq, Debug)]
+pub enum PairFault {
+    /// A position is not below the count.
+    NoEvent,
+    /// The first position is not below the second.
+    Order,
+    /// The two events do not conflict.
+    NoConflict,
+}
+
+impl PairFault {
+    /// The number of the refusal.
+    pub fn number(self) -> u8
+        ensures { λ r. ⌜ r ≡ pair-number self ⌝ }
+    {
+        match self {
+            PairFault::NoEvent => 8,
+            PairFault::Order => 9,
+            PairFault::NoConflict => 10,
+        }
+    }
+
+    /// The layer that refuses.
+    pub fn layer(self) -> Layer
+        ensures { λ r. ⌜ r ≡ pair-layer self ⌝ }
+    {
+        Layer::Pair
     }
 }
 

@@ -21,6 +21,9 @@ use trace::record::RECORD;
 use trace::record::RecordFault;
 use trace::record::decode;
 
+mod questions;
+mod races;
+
 /// The events are in the reel, and the table has the holders of the locks at their end.
 #[derive(Drop)]
 pub struct Session<R> {

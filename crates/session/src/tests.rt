@@ -1,8 +1,12 @@
 //! Sessions over both reels on a few records.
+use crate::fault::EntryFaultDebug;
 use crate::fault::EntryRefusal;
+use crate::fault::EntryRefusalDebug;
 use crate::fault::Layer;
 use crate::fault::LayerDebug;
 use crate::fault::LayerPartialEq;
+use crate::fault::PairFault;
+use crate::fault::PairFaultDebug;
 use crate::session::Session;
 use reel::Reel;
 use reel::board::BoardReel;
@@ -153,4 +157,75 @@ fn full_reels() -> Result<(), Fail> {
     full(BoardReel::new(), 1024)?;
     full(HostReel::over(&mut []), 0)?;
     full(HostReel::over(&mut [0; 23]), 2)
+}
+
+/// A session over a board reel with these events: kind, thread, subject.
+fn session_of(events: &[(u8, u8, u16)]) -> Result<Session<BoardReel>, Fail> {
+    let mut session = Session::open(BoardReel::new());
+    for (kind, thread, subject) in events {
+        session.enter(&record(*kind, *thread, *subject))?;
+    }
+    Ok(session)
+}
+
+/// The number of the refusal of a question.
+fn number<T: Drop>(answer: Result<T, PairFault>) -> Option<u8> {
+    match answer {
+        Ok(_) => None,
+        Err(fault) => Some(fault.number()),
+    }
+}
+
+#[test]
+fn critical_sections_apart() -> Result<(), Fail> {
+    // A: 0w0 0a0 0z0 1a0 1z0 1w0
+    let a = session_of(
+        &[
+            (2, 0, 0),
+            (3, 0, 0),
+            (4, 0, 0),
+            (3, 1, 0),
+            (4, 1, 0),
+            (2, 1, 0),
+        ],
+    )?;
+    check_eq(a.unordered(0, 5).ok(), Some(false))?;
+    check_eq(a.schedulable(0, 5).ok(), Some(false))?;
+    check_eq(a.vet(0, 5, &[3, 4]).ok(), Some(true))?;
+    check_eq(a.vet(0, 5, &[4, 3]).ok(), Some(false))?;
+    check_eq(a.vet(0, 5, &[3]).ok(), Some(false))?;
+    check_eq(a.vet(0, 5, &[]).ok(), Some(false))?;
+    check_eq(a.vet(0, 5, &[3, 4, 3]).ok(), Some(false))?;
+    check_eq(a.vet(0, 5, &[3, 4, 600]).ok(), Some(false))?;
+    check_eq(number(a.vet(1, 5, &[3, 4])), Some(10))
+}
+
+#[test]
+fn reads_and_locks() -> Result<(), Fail> {
+    // C: 0w0 0w1 1r1 1w0
+    let c = session_of(&[(2, 0, 0), (2, 0, 1), (1, 1, 1), (2, 1, 0)])?;
+    check_eq(c.unordered(0, 3).ok(), Some(true))?;
+    check_eq(c.schedulable(0, 3).ok(), Some(false))?;
+    check_eq(c.vet(0, 3, &[2]).ok(), Some(false))?;
+    // D: 0w0 0w1 1a0 1w2 1r1 1z0 2r2 2a0 2w0
+    let d = session_of(
+        &[
+            (2, 0, 0),
+            (2, 0, 1),
+            (3, 1, 0),
+            (2, 1, 2),
+            (1, 1, 1),
+            (4, 1, 0),
+            (1, 2, 2),
+            (3, 2, 0),
+            (2, 2, 0),
+        ],
+    )?;
+    check_eq(d.unordered(0, 8).ok(), Some(true))?;
+    // E: 0w0 1r0 2w0
+    let e = session_of(&[(2, 0, 0), (1, 1, 0), (2, 2, 0)])?;
+    check_eq(number(e.vet(0, 3, &[])), Some(8))?;
+    check_eq(number(e.vet(2, 2, &[])), Some(9))?;
+    check_eq(number(e.unordered(3, 0)), Some(8))?;
+    check_eq(e.schedulable(0, 2).ok(), Some(true))
 }

@@ -1,5 +1,27 @@
--- The lemmas, each file after those that it uses.
+-- The lemmas and theorems, each file after those that it uses.
 pub mod Faults
 pub mod Records
 pub mod Holders
 pub mod LockTables
+pub mod Events
+pub mod Places
+pub mod Ascending
+pub mod Listing
+pub mod Searches
+pub mod Lookups
+pub mod Seeds
+pub mod LookupExamples
+pub mod Picked
+pub mod LockEvents
+pub mod Prefixes
+pub mod Releases
+pub mod Rules
+pub mod Cuts
+pub mod Closures
+pub mod Reached
+pub mod Growing
+pub mod Orders
+pub mod Inclusions
+pub mod Realize
+pub mod Contains
+pub mod Exact

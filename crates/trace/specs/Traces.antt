@@ -1,14 +1,20 @@
--- Traces, and which of them the trace check admits. A trace is a list of events; the position of an event is the number of events before it.
+-- Traces, which of them the trace check admits, and how their events relate. A trace is a list of events; the position of an event is the
+-- number of events before it.
 use mathlib.Core.Path.{_≡_}
 use mathlib.Core.List.{List, [], _∷_}
 use mathlib.Core.Bool.{cond}
-use Prim.Native.Nat.{ℕ}
+use Prim.Native.Nat.{ℕ, _<_}
 use lib.Dec.{eqb}
+use Rattle.std.specs.Finite.{nth}
 use Rattle.std.specs.declared.option.Option.{Option}
 use Rattle.std.specs.declared.option.Option.the-variants.{Some, None}
 use Rattle.trace.specs.declared.event.Event.{Event}
 use Rattle.trace.specs.declared.kind.Kind.{Kind}
 use Rattle.trace.specs.declared.kind.Kind.the-variants.{Read, Write, Acquire, Release}
+
+-- the event at position k of t is e
+abbrev pub At : List Event → ℕ → Event → Type 0
+At t k e = nth t k ≡ Some e
 
 -- the thread that holds each lock, if one does
 abbrev pub Holders : Type 0
@@ -68,3 +74,43 @@ AdmitsFrom h (e ∷ es) = Allowed h e × AdmitsFrom (after-event h e) es
 -- the trace check admits t
 abbrev pub Admits : List Event → Type 0
 Admits t = AdmitsFrom all-free t
+
+-- d is an earlier event of the thread of k
+pub record EarlierInThread (t : List Event) (d k : ℕ) : Type 0 where
+  pub before : d < k
+  pub first : Event
+  pub second : Event
+  pub first-is : At t d first
+  pub second-is : At t k second
+  pub same-thread : first .thread ≡ second .thread
+
+-- d is the previous event of k: the latest earlier event of its thread
+pub record Previous (t : List Event) (k d : ℕ) : Type 0 where
+  pub earlier : EarlierInThread t d k
+  pub none-between : (m : ℕ) → d < m → EarlierInThread t m k → ⊥
+
+-- k is a read, and w its last write: the latest earlier write to its variable
+pub record LastWrite (t : List Event) (k w : ℕ) : Type 0 where
+  pub before : w < k
+  pub read : Event
+  pub write : Event
+  pub read-is : At t k read
+  pub write-is : At t w write
+  pub is-read : read .kind ≡ Read
+  pub is-write : write .kind ≡ Write
+  pub same-variable : write .subject ≡ read .subject
+  pub none-between : (m : ℕ) (e : Event) → w < m → m < k → At t m e → e .kind ≡ Write → e .subject ≡ read .subject → ⊥
+
+-- r is the first release of the lock of a by the thread of a, after a
+pub record ReleaseOf (t : List Event) (a r : ℕ) : Type 0 where
+  pub after : a < r
+  pub acquire : Event
+  pub release : Event
+  pub acquire-is : At t a acquire
+  pub release-is : At t r release
+  pub is-acquire : acquire .kind ≡ Acquire
+  pub is-release : release .kind ≡ Release
+  pub same-lock : release .subject ≡ acquire .subject
+  pub same-thread : release .thread ≡ acquire .thread
+  pub none-between : (m : ℕ) (e : Event) → a < m → m < r → At t m e → e .kind ≡ Release → e .subject ≡ acquire .subject → e .thread ≡ acquire .thread
+      → ⊥

@@ -5,6 +5,8 @@ use crate::kind::Kind;
 use crate::kind::KindDebug;
 use crate::kind::KindPartialEq;
 
+mod methods;
+
 /// The subject is a variable in a read or a write, and a lock in an acquire or a release. Every event is within the limits.
 #[derive(Clone, Copy, PartialEq, Debug)]
 pub struct Event {

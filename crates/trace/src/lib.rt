@@ -1,4 +1,4 @@
-//! Traces of events: the events, their records, and who holds which lock.
+//! Traces of events: the events, their records, who holds which lock, and the theory of reorderings.
 pub mod event;
 pub mod kind;
 pub mod limits;
@@ -6,3 +6,4 @@ pub mod locks;
 pub mod record;
 #[cfg(test)]
 mod tests;
+pub mod theorems;

@@ -1,0 +1,4 @@
+-- The definitions that the contracts cite.
+pub mod Held
+pub mod Parts
+pub mod Comes
