@@ -1,89 +1,85 @@
--- A buffer that is filled entry by entry.
+-- A buffer to which a list is offered entry by entry.
 use mathlib.Core.Path.{_≡_, refl, sym, _∙_, ap}
-use mathlib.Core.Bool.{true, false, cond}
+use mathlib.Core.Logic.{⊎-elim}
+use mathlib.Core.Bool.{Bool, true, false, cond}
 use mathlib.Core.List.{List, [], _∷_, _++_, append-nil, append-assoc}
-use Prim.Native.Nat.{ℕ, _+_, _<_, _≤_}
+use Prim.Native.Nat.{ℕ, _+_, _<_, _≤_, min}
 use native.Mathlib.Omega.{arith}
-use lib.ListN.{length, set, take, drop, length-append, length-drop}
-use Rattle.std.proofs.shelf.Lists.{length-push, drop-more, drop-all, take-at, set-at}
 use lib.Dec.{ltb}
-use Rattle.std.specs.Results.{isOk}
+use lib.ListN.{length, set, take, drop, length-append, length-take, length-drop}
+use lib.Seq.{take-nil}
 use Rattle.std.specs.declared.result.Result.{Result}
 use Rattle.std.specs.declared.result.Result.the-variants.{Ok, Err}
-use Rattle.std.proofs.shelf.Tests.{ltb-true, ltb-false}
+use Rattle.std.proofs.shelf.Lists.{length-push, drop-more, drop-all, take-all, take-append-le, set-at}
+use Rattle.std.proofs.shelf.Tests.{cases-lt, lt-ltb, le-ltb}
 use Rattle.session.specs.declared.collector.BufferFault.{BufferFault}
 use Rattle.session.specs.declared.collector.BufferFault.the-variants.{Full}
-use Rattle.session.specs.Buffers.{Filled, Collecting, Collects}
-use Rattle.session.specs.Buffers.Collects.{all, full}
+use Rattle.session.specs.Buffers.{Filled, Collecting}
 use Rattle.session.specs.Buffers.Filled.{whole, short}
 
 module _ {A : Type 0} (before : List A) where
-  pub collecting-none : Collecting before [] before 0
-  collecting-none = record { count-is = refl; entries-are = refl; fits = omega arith }
+  pub collecting-none : Collecting before [] before 0 false
+  collecting-none =
+      record { entries-are = rw (take-nil (length before)) refl; count-is = omega arith; full-is = sym (le-ltb (length before) 0 (omega arith)) }
 
-  module _ {list entries : List A} {count : ℕ} (c : Collecting before list entries count) where
+  module _ {list entries : List A} {count : ℕ} {full : Bool} (c : Collecting before list entries count full) where
     long : length entries ≡ length before
-    long = let f = c .fits in rw (c .entries-are) (simp (length-append, length-drop) (omega arith))
+    long = rw (c .entries-are) (simp (length-append, length-take, length-drop) (omega arith))
 
-    -- all is written
-    pub collected : Filled list before (Ok count) entries
-    collected = rw (c .count-is, c .entries-are) (whole (c .fits))
+    -- one entry more
+    pub collecting-more : (x : A) (next : List A) (more : ℕ) (full′ : Bool) → more ≡ cond (ltb count (length entries)) (count + 1) count
+        → full′ ≡ cond (ltb count (length entries)) full true → next ≡ cond (ltb count (length entries)) (set entries count x) entries
+        → Collecting before (list ++ (x ∷ [])) next more full′
+    collecting-more x next more full′ count-is full-is entries-are = ⊎-elim placed passed (cases-lt (length list) (length before))
+      where
+        placed : length list < length before → Collecting before (list ++ (x ∷ [])) next more full′
+        placed inside =
+            let l = long in
+            let n = c .count-is in
+            let room : ltb count (length entries) ≡ true = lt-ltb count (length entries) (omega arith) in
+            let longer = length-push list x in
+            let all : take (length before) list ≡ list = take-all (length before) list (omega arith) in
+            let all-more : take (length before) (list ++ (x ∷ [])) ≡ list ++ (x ∷ []) = take-all (length before) (list ++ (x ∷ [])) (omega arith) in
+            let n-is : length list ≡ count = omega arith in
+            let next-is : next ≡ set entries count x = entries-are ∙ rw room refl in
+            let more-is : more ≡ count + 1 = count-is ∙ rw room refl in
+            record {
+              entries-are = next-is
+                  ∙ rw (c .entries-are, all, all-more, longer, append-assoc list (x ∷ []) (drop (length list + 1) before), drop-more before (length list) x inside)
+                  (set-at list _ (drop (length list + 1) before) x count n-is);
+              count-is = omega arith;
+              full-is = full-is ∙ rw (room, c .full-is, longer) (le-ltb (length before) (length list) (omega arith) ∙ sym (le-ltb (length before) (length list + 1) (omega arith)));
+            }
 
-    -- one entry more finds its place
-    pub collecting-more : (x : A) → count < length entries → Collecting before (list ++ (x ∷ [])) (set entries count x) (count + 1)
-    collecting-more x room =
-        let l = long in
-        let f = c .fits in
-        let n = c .count-is in
-        let inside : length list < length before = omega arith in
-        let longer = length-push list x in
-        record {
-          count-is = omega arith;
-          entries-are = rw (c .entries-are, longer, append-assoc list (x ∷ []) (drop (length list + 1) before), drop-more before (length list) x inside)
-              (set-at list _ (drop (length list + 1) before) x count (sym n));
-          fits = omega arith;
-        }
+        passed : length before ≤ length list → Collecting before (list ++ (x ∷ [])) next more full′
+        passed none =
+            let l = long in
+            let n = c .count-is in
+            let room : ltb count (length entries) ≡ false = le-ltb count (length entries) (omega arith) in
+            let longer = length-push list x in
+            let more-is : more ≡ count = count-is ∙ rw room refl in
+            record {
+              entries-are = entries-are
+                  ∙ rw (room, c .entries-are, take-append-le (length before) list (x ∷ []) none, longer, drop-all (length list) before none, drop-all (length list + 1) before (omega arith))
+                  refl;
+              count-is = omega arith;
+              full-is = full-is ∙ rw (room, longer) (sym (lt-ltb (length before) (length list + 1) (omega arith)));
+            }
 
-    -- or it does not
-    pub collecting-full : (x : A) (rest : List A) → length entries ≤ count → Filled (list ++ (x ∷ rest)) before (Err Full) entries
-    collecting-full x rest none =
-        let l = long in
-        let f = c .fits in
-        let n = c .count-is in
-        let same : length list ≡ length before = omega arith in
-        let gone : drop (length list) before ≡ [] = drop-all (length list) before (omega arith) in
-        let entries-are : entries ≡ take (length before) (list ++ (x ∷ rest)) =
-        c .entries-are ∙ ap (λ (xs : List A). list ++ xs) gone ∙ append-nil list ∙ sym (take-at list (x ∷ rest) (length before) same) in
-        rw entries-are (short (let m = length-append list (x ∷ rest) in omega arith))
+    -- what the buffer then holds
+    pub collected : Filled list before (cond full (Err Full) (Ok count)) entries
+    collected = ⊎-elim too-long fits (cases-lt (length before) (length list))
+      where
+        too-long : length before < length list → Filled list before (cond full (Err Full) (Ok count)) entries
+        too-long h =
+            let entries-are : entries ≡ take (length before) list =
+            c .entries-are ∙ rw (drop-all (length list) before (omega arith)) (append-nil (take (length before) list)) in
+            rw (c .full-is, lt-ltb (length before) (length list) h, entries-are) (short h)
 
-    -- what a push comes to
-    pub pushes : (x : A) (r : Result (Unit {0}) BufferFault) (next : List A) (more : ℕ) → isOk r ≡ ltb count (length entries)
-        → more ≡ cond (isOk r) (count + 1) count → next ≡ cond (isOk r) (set entries count x) entries → Collects before list (x ∷ []) r next more
-    pushes x (Ok tt) next more answer count-is entries-are =
-        rw (count-is, entries-are) (all (collecting-more x (ltb-true count (length entries) (sym answer))))
-    pushes x (Err Full) next more answer count-is entries-are =
-        rw entries-are (full (λ rest. collecting-full x rest (ltb-false count (length entries) (sym answer))))
-
-  -- what was written goes on
-  pub collects-on : {list xs entries : List A} {count : ℕ} → Collects before list xs (Ok tt) entries count → Collecting before (list ++ xs) entries count
-  collects-on (all c) = c
-
-  pub collects-then : (list xs ys : List A) {next : List A} {more : ℕ} {r : Result (Unit {0}) BufferFault} → Collects before (list ++ xs) ys r next more
-      → Collects before list (xs ++ ys) r next more
-  collects-then list xs ys (all c) = all (rw (← append-assoc list xs ys) c)
-  collects-then list xs ys (full f) = full (λ rest. rw (append-assoc xs ys rest, ← append-assoc list xs (ys ++ rest)) (f rest))
-
-  -- a buffer that is full is also too small for more
-  pub collects-stop : {list xs entries : List A} {count : ℕ} (ys : List A) → Collects before list xs (Err Full) entries count
-      → Collects before list (xs ++ ys) (Err Full) entries count
-  collects-stop {xs = xs} ys (full f) = full (λ rest. rw (append-assoc xs ys rest) (f (ys ++ rest)))
-
-  -- what is then in the buffer
-  pub filled-all : {xs entries : List A} {count : ℕ} → Collects before [] xs (Ok tt) entries count → Filled xs before (Ok count) entries
-  filled-all (all c) = collected c
-
-  pub filled-full : {xs entries : List A} {count : ℕ} (f : BufferFault) → Collects before [] xs (Err f) entries count → Filled xs before (Err f) entries
-  filled-full {xs} Full (full f) = rw append-nil at (f [])
+        fits : length list ≤ length before → Filled list before (cond full (Err Full) (Ok count)) entries
+        fits h =
+            let n : count ≡ length list = let m = c .count-is in omega arith in
+            rw (c .full-is, le-ltb (length before) (length list) h, n, c .entries-are, take-all (length before) list h) (whole h)
 
 -- the buffer is what was written into it
 pub filled-as : {A : Type 0} {list before entries buffer : List A} {r : Result ℕ BufferFault} → buffer ≡ entries → Filled list before r entries

@@ -5,3 +5,4 @@ pub mod Asked
 pub mod Racing
 pub mod Collecting
 pub mod Listings
+pub mod Partnering

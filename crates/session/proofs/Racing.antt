@@ -2,7 +2,7 @@
 use mathlib.Core.Path.{_≡_, refl, sym, _∙_, subst}
 use mathlib.Core.Logic.{_↔_, ⊎-elim}
 use mathlib.Core.Bool.{Bool, true, false}
-use mathlib.Core.List.{List, [], _∷_, List·Memᴰ, List·Memᴰ·head, List·Memᴰ·cases-cons, List·Memᴰ·not-nil}
+use mathlib.Core.List.{List, [], _∷_, List·Memᴰ, List·Memᴰ·head, List·Memᴰ·tail, List·Memᴰ·cases-cons, List·Memᴰ·not-nil}
 use Prim.Native.Nat.{ℕ, _<_}
 use native.Mathlib.Omega.{arith}
 use Rattle.std.specs.declared.option.Option.the-variants.{Some, None}
@@ -14,6 +14,8 @@ use Rattle.trace.specs.SyncTheorems.{Apart}
 use Rattle.trace.proofs.Seeds.{seeds-of}
 use Rattle.trace.proofs.Closures.{closure-bounded, closure-unique}
 use Rattle.trace.proofs.Rules.{sync-laws}
+use Rattle.trace.specs.Reorderings.{Leaves}
+use Rattle.trace.proofs.Contains.{contains}
 use Rattle.trace.proofs.Exact.{exact}
 use Rattle.predict.specs.declared.cut.Cut.{Cut}
 use Rattle.predict.specs.Held.{held}
@@ -56,3 +58,17 @@ module _ (t : List Event) (p q : ℕ) (admitted : Admits t) (none : None ≡ pai
     λ o. o .2 (closure-unique SyncWants t (previous-events t (p ∷ q ∷ [])) (o .0) (f .0) (o .1) (f .1) p ∙ f .2),
     λ r. races-by t p q admitted (asked t p q none .below) (f .0) (f .1) .1 r (f .2),
   )
+
+-- the closure of the previous event of q alone
+module _ (t : List Event) (p q : ℕ) where
+  -- its seeds are among those of the pair
+  pub fewer-seeds : (s : ℕ) → List·Memᴰ s (previous-events t (q ∷ [])) → List·Memᴰ s (previous-events t (p ∷ q ∷ []))
+  fewer-seeds s m =
+      let h = seeds-of t (q ∷ []) .sound s m in
+      seeds-of t (p ∷ q ∷ []) .complete (h .0) s (List·Memᴰ·tail (h .1)) (h .2)
+
+  -- a pair does not race if p is in it
+  pub base-inside : (c : Positions) → Closure SyncWants t (previous-events t (q ∷ [])) c → In p c → Races t p q → ⊥
+  base-inside c closure in-p r =
+      let leaves : Leaves t (q ∷ []) (r .0) = record { correct = r .1 .correct; sync = r .1 .sync; enabled = λ e m. r .1 .enabled e (List·Memᴰ·tail m) } in
+      r .1 .enabled p (List·Memᴰ·head refl) .outside (contains t (q ∷ []) (previous-events t (q ∷ [])) c (r .0) (seeds-of t (q ∷ [])) closure leaves p in-p)

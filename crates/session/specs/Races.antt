@@ -2,7 +2,7 @@
 use mathlib.Core.Path.{_≡_}
 use mathlib.Core.Logic.{_↔_, _⊎_}
 use mathlib.Core.List.{List, [], _∷_, List·Memᴰ}
-use Prim.Native.Nat.{ℕ, _<_}
+use Prim.Native.Nat.{ℕ, _<_, _≤_}
 use lib.ListN.{length}
 use Rattle.std.specs.declared.option.Option.{Option}
 use Rattle.std.specs.declared.option.Option.the-variants.{Some, None}
@@ -20,6 +20,8 @@ use Rattle.session.specs.declared.verdict.Verdict.{Verdict}
 use Rattle.session.specs.declared.verdict.Verdict.the-variants.{Race, NoRace}
 use Rattle.session.specs.declared.verdict.WitnessFault.{WitnessFault}
 use Rattle.session.specs.declared.verdict.WitnessFault.the-variants.{Pair, NoRace as None-to-show, Buffer}
+use Rattle.session.specs.declared.verdict.PartnersFault.{PartnersFault}
+use Rattle.session.specs.declared.verdict.PartnersFault.the-variants.{NoEvent, Buffer as BufferOf}
 use Rattle.session.specs.declared.collector.BufferFault.{BufferFault}
 use Rattle.session.specs.Faults.{pair-number}
 use Rattle.session.specs.Buffers.{buffer-number, Filled}
@@ -80,6 +82,22 @@ RacingPair t p q = (pair-refusal t p q ≡ None) × Races t p q
 pub record PartnersOf (t : List Event) (q : ℕ) (ps : List ℕ) : Type 0 where
   pub ascending : Ascending ps
   pub exact : (p : ℕ) → List·Memᴰ p ps ↔ RacingPair t p q
+
+-- the number of a refusal of Partners: 8 where there is no such position, 12 where the buffer is too small
+abbrev pub partners-number : PartnersFault → ℕ
+partners-number NoEvent = 8
+partners-number (BufferOf f) = buffer-number f
+
+-- an answer of a buffer, as one of Partners
+abbrev pub as-partners : Result ℕ BufferFault → Result ℕ PartnersFault
+as-partners (Ok n) = Ok n
+as-partners (Err f) = Err (BufferOf f)
+
+-- Partners: refused where q is not below the count, and the buffer stays; else the partners of q are written into the buffer
+pub data Partnered (t : List Event) (q : ℕ) (before : List ℕ) : Result ℕ PartnersFault → List ℕ → Type 0 where
+  refused : length t ≤ q → Partnered t q before (Err NoEvent) before
+  written : {ps after : List ℕ} {r : Result ℕ BufferFault} → q < length t → PartnersOf t q ps → Filled ps before r after
+      → Partnered t q before (as-partners r) after
 
 -- the pair of p and q
 abbrev pub pair : ℕ → ℕ → RacePair

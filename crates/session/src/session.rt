@@ -21,6 +21,7 @@ use trace::record::RECORD;
 use trace::record::RecordFault;
 use trace::record::decode;
 
+mod lists;
 mod questions;
 mod races;
 

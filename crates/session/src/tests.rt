@@ -1,4 +1,7 @@
 //! Sessions over both reels on a few records.
+use crate::collector::BufferFault;
+use crate::collector::BufferFaultDebug;
+use crate::collector::BufferFaultPartialEq;
 use crate::fault::EntryFaultDebug;
 use crate::fault::EntryRefusal;
 use crate::fault::EntryRefusalDebug;
@@ -8,6 +11,15 @@ use crate::fault::LayerPartialEq;
 use crate::fault::PairFault;
 use crate::fault::PairFaultDebug;
 use crate::session::Session;
+use crate::verdict::PartnersFault;
+use crate::verdict::PartnersFaultDebug;
+use crate::verdict::PartnersFaultPartialEq;
+use crate::verdict::Verdict;
+use crate::verdict::VerdictDebug;
+use crate::verdict::VerdictPartialEq;
+use crate::verdict::WitnessFault;
+use crate::verdict::WitnessFaultDebug;
+use crate::verdict::WitnessFaultPartialEq;
 use reel::Reel;
 use reel::board::BoardReel;
 use reel::board::BoardReelReel;
@@ -189,6 +201,12 @@ fn critical_sections_apart() -> Result<(), Fail> {
             (2, 1, 0),
         ],
     )?;
+    check_eq(a.judge(0, 5).ok(), Some(Verdict::Race))?;
+    let mut buffer = [9; 3];
+    check_eq(a.witness(0, 5, &mut buffer).ok(), Some(2))?;
+    check_eq(buffer, [3, 4, 9])?;
+    check_eq(a.partners(5, &mut buffer).ok(), Some(1))?;
+    check_eq(buffer, [0, 4, 9])?;
     check_eq(a.unordered(0, 5).ok(), Some(false))?;
     check_eq(a.schedulable(0, 5).ok(), Some(false))?;
     check_eq(a.vet(0, 5, &[3, 4]).ok(), Some(true))?;
@@ -204,6 +222,11 @@ fn critical_sections_apart() -> Result<(), Fail> {
 fn reads_and_locks() -> Result<(), Fail> {
     // C: 0w0 0w1 1r1 1w0
     let c = session_of(&[(2, 0, 0), (2, 0, 1), (1, 1, 1), (2, 1, 0)])?;
+    check_eq(c.judge(0, 3).ok(), Some(Verdict::NoRace))?;
+    check_eq(c.judge(1, 2).ok(), Some(Verdict::Race))?;
+    let mut buffer = [9; 1];
+    check_eq(c.witness(0, 3, &mut buffer), Err(WitnessFault::NoRace))?;
+    check_eq(buffer, [9])?;
     check_eq(c.unordered(0, 3).ok(), Some(true))?;
     check_eq(c.schedulable(0, 3).ok(), Some(false))?;
     check_eq(c.vet(0, 3, &[2]).ok(), Some(false))?;
@@ -221,9 +244,16 @@ fn reads_and_locks() -> Result<(), Fail> {
             (2, 2, 0),
         ],
     )?;
+    check_eq(d.judge(0, 8).ok(), Some(Verdict::NoRace))?;
     check_eq(d.unordered(0, 8).ok(), Some(true))?;
     // E: 0w0 1r0 2w0
     let e = session_of(&[(2, 0, 0), (1, 1, 0), (2, 2, 0)])?;
+    check_eq(
+        e.partners(2, &mut buffer),
+        Err(PartnersFault::Buffer(BufferFault::Full)),
+    )?;
+    check_eq(buffer, [0])?;
+    check_eq(e.partners(3, &mut buffer), Err(PartnersFault::NoEvent))?;
     check_eq(number(e.vet(0, 3, &[])), Some(8))?;
     check_eq(number(e.vet(2, 2, &[])), Some(9))?;
     check_eq(number(e.unordered(3, 0)), Some(8))?;

@@ -45,13 +45,13 @@ module _ (e : Event) where
   pub as-write : (x : ℕ) → e .kind ≡ Write → e .subject ≡ x → writes x e ≡ true
   as-write x k s = and-from (writing (e .kind)) (eqb (e .subject) x) (ap writing k) (eq-eqb (e .subject) x s)
 
-  is-release : (l p : ℕ) → releases l p e ≡ true → (e .kind ≡ Release) × (e .subject ≡ l) × (e .thread ≡ p)
+  pub is-release : (l p : ℕ) → releases l p e ≡ true → (e .kind ≡ Release) × (e .subject ≡ l) × (e .thread ≡ p)
   is-release l p h =
       let (k, r) = and-parts (releasing (e .kind)) (eqb (e .subject) l && eqb (e .thread) p) h in
       let (s, w) = and-parts (eqb (e .subject) l) (eqb (e .thread) p) r in
       (is-releasing (e .kind) k, eqb-true (e .subject) l s, eqb-true (e .thread) p w)
 
-  as-release : (l p : ℕ) → e .kind ≡ Release → e .subject ≡ l → e .thread ≡ p → releases l p e ≡ true
+  pub as-release : (l p : ℕ) → e .kind ≡ Release → e .subject ≡ l → e .thread ≡ p → releases l p e ≡ true
   as-release l p k s w =
       and-from (releasing (e .kind)) (eqb (e .subject) l && eqb (e .thread) p) (ap releasing k)
       (and-from (eqb (e .subject) l) (eqb (e .thread) p) (eq-eqb (e .subject) l s) (eq-eqb (e .thread) p w))

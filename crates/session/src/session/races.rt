@@ -5,13 +5,16 @@ ghost use Rattle.trace.specs.Traces.{Admits};
 ghost use Rattle.session.specs.Questions.{pair-refusal};
 ghost use Rattle.session.specs.Entries.{Stands};
 ghost use lib.ListN.{length};
-ghost use Rattle.trace.specs.Cuts.{listed};
-ghost use Rattle.predict.specs.Held.{held};
-ghost use Rattle.session.specs.Buffers.{Filled, Collecting, Collects};
+ghost use mathlib.Core.Logic.{_↔_};
+ghost use mathlib.Core.Bool.{true};
+ghost use Rattle.trace.specs.Lookups.{previous-events};
+ghost use Rattle.trace.specs.Cuts.{SyncWants, listed};
+ghost use Rattle.predict.specs.Held.{held, Closes};
+ghost use Rattle.session.specs.Buffers.{Filled, Collecting};
 ghost use denote.Ref.{name};
-ghost use mathlib.Core.List.{List};
+ghost use mathlib.Core.List.{List, [], _∷_, _++_};
 ghost use Prim.Native.Nat.{ℕ};
-ghost use Rattle.session.specs.Races.{Witnessed, Races, OutsideSync, FoundRace, Judged};
+ghost use Rattle.session.specs.Races.{RacingPair, Witnessed, Races, OutsideSync, FoundRace, Judged};
 use crate::collector::BufferFault;
 use crate::collector::Collector;
 use crate::fault::PairFault;
@@ -21,6 +24,7 @@ use crate::verdict::WitnessFault;
 use crate::verdict::WitnessFaultFromBuffer;
 use crate::verdict::WitnessFaultFromPair;
 use predict::closure::closure_before;
+use predict::closure::closure_before_from;
 use predict::cut::Cut;
 use predict::lookup::is_inside;
 use predict::lookup::is_outside;
@@ -41,6 +45,20 @@ impl<R: Reel> Session<R> {
         }
     }
 
+    /// Whether p races with q, where `base` is the sync closure of the previous event of q, which every closure for q has inside.
+    pub(super) fn races_beyond(&self, base: &Cut, p: usize, q: usize) -> bool
+        ensures { λ r. let t = R·Reel .events (now (self .entry) .reel) in ⌜ (Admits t → Closes SyncWants t (previous-events t (q ∷ [])) (now (base .entry) .bounds) → (r ≡ true) ↔ RacingPair t p q) ⌝ }
+    {
+        if self.check_pair(p, q).is_err() {
+            return false;
+        }
+        if !is_outside(&self.reel, base, p) {
+            return false;
+        }
+        let before = closure_before_from(&SyncRule {}, &self.reel, *base, &[p, q]);
+        is_outside(&self.reel, &before, p)
+    }
+
     /// Judge: whether the events at p and q race.
     pub fn judge(&self, p: usize, q: usize) -> Result<Verdict, PairFault>
         ensures closure { λ r. let t = R·Reel .events (now (self .entry) .reel) in ⌜ (Stands (now (self .entry) .locks) t → Judged t p q (OutsideSync t p q) r) ⌝ }
@@ -54,17 +72,17 @@ impl<R: Reel> Session<R> {
     }
 
     /// Collects the positions that the cut has, ascending.
-    fn collect_cut(&self, cut: &Cut, out: &mut Collector<'_, u16>) -> Result<(), BufferFault>
-        ensures collects { λ r. let t = R·Reel .events (now (self .entry) .reel) in ⌜ ((before list : List ℕ) → Collecting before list (now (now (out .entry) .entries)) (now (out .entry) .count)
-            → Collects before list (listed (held t (now (cut .entry) .bounds)) (length t)) r (now (now (out .exit) .entries)) (now (out .exit) .count)) ⌝ }
+    fn collect_cut(&self, cut: &Cut, out: &mut Collector<'_, u16>)
+        ensures collects { λ _. let t = R·Reel .events (now (self .entry) .reel) in ⌜ ((before list : List ℕ)
+            → Collecting before list (now (now (out .entry) .entries)) (now (out .entry) .count) (now (out .entry) .full)
+            → Collecting before (list ++ listed (held t (now (cut .entry) .bounds)) (length t)) (now (now (out .exit) .entries)) (now (out .exit) .count) (now (out .exit) .full)) ⌝ }
         ensures lender { λ _. ⌜ name (now (out .exit) .entries) ≡ name (now (out .entry) .entries) ⌝ }
     {
         for position in 0..self.reel.count() {
             if is_inside(&self.reel, cut, position) {
-                out.push(position as u16)?;
+                out.push(position as u16);
             }
         }
-        Ok(())
     }
 
     /// Writes the positions that the cut has, ascending.
@@ -72,8 +90,8 @@ impl<R: Reel> Session<R> {
         ensures { λ r. let t = R·Reel .events (now (self .entry) .reel) in ⌜ Filled (listed (held t (now (cut .entry) .bounds)) (length t)) (now (buffer .entry)) r (now (buffer .exit)) ⌝ }
     {
         let mut out = Collector::over(buffer);
-        self.collect_cut(cut, &mut out)?;
-        Ok(out.count())
+        self.collect_cut(cut, &mut out);
+        out.answer()
     }
 
     /// Witness: writes the events of the sync closure of the previous events of p and q, in trace order, and answers how many they are.

@@ -10,6 +10,7 @@ use Rattle.session.proofs.session.Session.collect_cut.Given as given
 
 abbrev pub Inv-loop-position : given.InvT-loop-position
 Inv-loop-position g l =
-    ((before list : List ℕ) → Collecting before list (l .entry .out .entries .now) (l .entry .out .count)
-    → Collecting before (list ++ listed (held (g .R·Reel .events (l .self .reel)) (l .cut .bounds)) (l .position)) (l .out .entries .now) (l .out .count))
+    ((before list : List ℕ) → Collecting before list (l .entry .out .entries .now) (l .entry .out .count) (l .entry .out .full)
+    → Collecting before (list ++ listed (held (g .R·Reel .events (l .self .reel)) (l .cut .bounds)) (l .position)) (l .out .entries .now) (l .out .count)
+    (l .out .full))
     × (name (l .out .entries) ≡ name (l .entry .out .entries))
