@@ -27,7 +27,7 @@ use Rattle.session.specs.Races.Witnessed.{no-race as no-witness}
 use Rattle.session.proofs.Asked.{asked, scheduled-by}
 use Rattle.session.proofs.Racing.{races-by}
 use Rattle.cases.specs.Cases.{Judges, FindsUnordered, FindsSchedulable}
-use Rattle.cases.proofs.RuleTests.{Test, some-in, either, read-test, lock-test, before-acquire, unlocks, sync-decided, happens-before-decided, schedulable-decided}
+use Rattle.predict.proofs.RuleTests.{Test, some-in, either, read-test, lock-test, before-acquire, unlocks, sync-decided, happens-before-decided, schedulable-decided}
 use Rattle.cases.proofs.Closing.{with-earlier, closes, closure-by}
 
 -- the tests of the three rules
@@ -68,7 +68,7 @@ module _ (t : List Event) (p q : ℕ) (admitted : Admits t) (none : pair-refusal
     pub judges-none : with-earlier t ws p ≡ true → Judges t p q NoRace
     judges-none i = no-race none (races-not i)
 
-    pub witness-refused : with-earlier t ws p ≡ true → (buffer : List ℕ) → Witnessed t p q buffer (Err None-to-show) buffer
+    pub witness-refused : with-earlier t ws p ≡ true → (buffer : List ℕ) → Witnessed t p q (Witness t p q) buffer (Err None-to-show) buffer
     witness-refused i buffer = no-witness none (races-not i)
 
     pub witness-is : Witness t p q (listed (with-earlier t ws) (length t))

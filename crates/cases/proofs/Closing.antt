@@ -14,8 +14,8 @@ use Rattle.trace.specs.Cuts.Reached.{seed, wanted}
 use Rattle.trace.proofs.Places.{members, in-member}
 use Rattle.trace.proofs.Growing.{Grown, empty-cut, grown-cut, grown-reached, wanted-inside}
 use Rattle.trace.proofs.Reached.{closure-from}
-use Rattle.cases.proofs.Tests.{some-below, some-from, earlier, is-earlier, as-earlier}
-use Rattle.cases.proofs.RuleTests.{Test, Decides}
+use Rattle.predict.proofs.Tests.{some-below, some-from, earlier, is-earlier, as-earlier}
+use Rattle.predict.proofs.RuleTests.{Test, Decides}
 
 -- some positions with the earlier events of their threads
 abbrev pub with-earlier : List Event → List ℕ → Positions

@@ -1,7 +1,5 @@
 -- The lemmas, each file after those that it uses.
 pub mod Entering
-pub mod Tests
-pub mod RuleTests
 pub mod Closing
 pub mod Asking
 pub mod Judging

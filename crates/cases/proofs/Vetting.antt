@@ -9,7 +9,7 @@ use Rattle.trace.specs.Reorderings.{Leaves}
 use Rattle.session.specs.Questions.Answers.{answered}
 use Rattle.cases.specs.Examples.{sections-between}
 use Rattle.cases.specs.Cases.{Vets, WitnessVetted}
-use Rattle.cases.proofs.Tests.{is-earlier}
+use Rattle.predict.proofs.Tests.{is-earlier}
 use Rattle.cases.proofs.Asking.{witness-leaves}
 use Rattle.cases.proofs.Judging.{sections-admitted}
 

@@ -51,7 +51,7 @@ SectionsOrdered = FindsUnordered sections-between 0 5 false × FindsSchedulable 
 -- two writes under one lock do not race, so a witness is refused with 11, and the buffer stays
 abbrev pub LockedNoRace : Type 0
 LockedNoRace =
-    Judges writes-locked 1 4 NoRace × ((buffer : List ℕ) → Witnessed writes-locked 1 4 buffer (Err None-to-show) buffer) × (witness-number None-to-show ≡ 11)
+    Judges writes-locked 1 4 NoRace × ((buffer : List ℕ) → Witnessed writes-locked 1 4 (Witness writes-locked 1 4) buffer (Err None-to-show) buffer) × (witness-number None-to-show ≡ 11)
 
 -- the read keeps the writes around it from racing; happens-before does not see that, and schedulable happens-before does
 abbrev pub ReadNoRace : Type 0

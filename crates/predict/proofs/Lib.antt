@@ -9,6 +9,9 @@ pub mod ReadParts
 pub mod LockParts
 pub mod EarlierParts
 pub mod RuleParts
+pub mod Tests
+pub mod RuleTests
+pub mod Existence
 pub mod Members
 pub mod Writes
 pub mod Coming

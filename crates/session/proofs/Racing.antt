@@ -5,22 +5,24 @@ use mathlib.Core.Bool.{Bool, true, false}
 use mathlib.Core.List.{List, [], _∷_, List·Memᴰ, List·Memᴰ·head, List·Memᴰ·tail, List·Memᴰ·cases-cons, List·Memᴰ·not-nil}
 use Prim.Native.Nat.{ℕ, _<_}
 use native.Mathlib.Omega.{arith}
+use lib.ListN.{length}
 use Rattle.std.specs.declared.option.Option.the-variants.{Some, None}
 use Rattle.trace.specs.declared.event.Event.{Event}
 use Rattle.trace.specs.Traces.{At, Admits}
 use Rattle.trace.specs.Lookups.{previous-events}
-use Rattle.trace.specs.Cuts.{Positions, In, Closure, SyncWants}
+use Rattle.trace.specs.Cuts.{Positions, In, Closure, SyncWants, listed}
 use Rattle.trace.specs.SyncTheorems.{Apart}
 use Rattle.trace.proofs.Seeds.{seeds-of}
 use Rattle.trace.proofs.Closures.{closure-bounded, closure-unique}
 use Rattle.trace.proofs.Rules.{sync-laws}
 use Rattle.trace.specs.Reorderings.{Leaves}
 use Rattle.trace.proofs.Contains.{contains}
-use Rattle.trace.proofs.Exact.{exact}
+use Rattle.trace.proofs.Listing.{listed-within, listed-ascending}
+use Rattle.trace.proofs.Exact.{exact, realized, least}
 use Rattle.predict.specs.declared.cut.Cut.{Cut}
 use Rattle.predict.specs.Held.{held}
 use Rattle.session.specs.Questions.{pair-refusal}
-use Rattle.session.specs.Races.{Races, OutsideSync, FoundRace}
+use Rattle.session.specs.Races.{Races, OutsideSync, FoundRace, Shows}
 use Rattle.session.proofs.Asked.{asked}
 
 module _ (t : List Event) (p q : ℕ) (admitted : Admits t) (below : p < q) (c : Positions)
@@ -35,7 +37,7 @@ module _ (t : List Event) (p q : ℕ) (admitted : Admits t) (below : p < q) (c :
       (List·Memᴰ·cases-cons (s .1))
 
   -- so it is enough to look for p
-  apart : (In p c → ⊥) → Apart (p ∷ q ∷ []) c
+  pub apart : (In p c → ⊥) → Apart (p ∷ q ∷ []) c
   apart not-p e m in-e =
       ⊎-elim (λ i. not-p (subst (λ (k : ℕ). In k c) i in-e))
       (λ n. ⊎-elim (λ i. q-outside (subst (λ (k : ℕ). In k c) i in-e)) (λ o. absurd (List·Memᴰ·not-nil o)) (List·Memᴰ·cases-cons n))
@@ -58,6 +60,17 @@ module _ (t : List Event) (p q : ℕ) (admitted : Admits t) (none : None ≡ pai
     λ o. o .2 (closure-unique SyncWants t (previous-events t (p ∷ q ∷ [])) (o .0) (f .0) (o .1) (f .1) p ∙ f .2),
     λ r. races-by t p q admitted (asked t p q none .below) (f .0) (f .1) .1 r (f .2),
   )
+
+  -- the listing of the closure is a witness
+  pub found-shows : (cut : Cut) → FoundRace t p q (Some cut) → Shows t p q (listed (held t (cut .bounds)) (length t))
+  found-shows cut f =
+      let ss = previous-events t (p ∷ q ∷ []) in
+      let c = held t (cut .bounds) in
+      record {
+        leaves = realized t (p ∷ q ∷ []) ss c admitted (seeds-of t (p ∷ q ∷ [])) (f .0) (apart t p q admitted (asked t p q none .below) c (f .0) (f .1));
+        in-order = listed-ascending c (length t);
+        least = λ σ l. let r = least t (p ∷ q ∷ []) ss c σ (seeds-of t (p ∷ q ∷ [])) (f .0) l in (λ k m. r .0 k (listed-within c (length t) k m .0), r .1);
+      }
 
 -- the closure of the previous event of q alone
 module _ (t : List Event) (p q : ℕ) where

@@ -4,3 +4,4 @@ pub mod Entries
 pub mod Questions
 pub mod Buffers
 pub mod Races
+pub mod Runs

@@ -66,13 +66,20 @@ abbrev pub as-witness : Result ℕ BufferFault → Result ℕ WitnessFault
 as-witness (Ok n) = Ok n
 as-witness (Err f) = Err (Buffer f)
 
--- Witness: refused with the number of the first check that fails, with 11 where the pair is no race, and the buffer stays; else the witness
--- is written into the buffer
-pub data Witnessed (t : List Event) (p q : ℕ) (before : List ℕ) : Result ℕ WitnessFault → List ℕ → Type 0 where
-  refused : {f : PairFault} → pair-refusal t p q ≡ Some (pair-number f) → Witnessed t p q before (Err (Pair f)) before
-  no-race : pair-refusal t p q ≡ None → (Races t p q → ⊥) → Witnessed t p q before (Err None-to-show) before
-  written : {ws after : List ℕ} {r : Result ℕ BufferFault} → pair-refusal t p q ≡ None → Races t p q → Witness t p q ws → Filled ws before r after
-      → Witnessed t p q before (as-witness r) after
+-- the same in the words of reorderings: it leaves both enabled and stands in trace order, and every other one that does has all its events, and
+-- so at least as many
+pub record Shows (t : List Event) (p q : ℕ) (ws : List ℕ) : Type 0 where
+  pub leaves : Leaves t (p ∷ q ∷ []) ws
+  pub in-order : Ascending ws
+  pub least : (σ : List ℕ) → Leaves t (p ∷ q ∷ []) σ → ((k : ℕ) → List·Memᴰ k ws → List·Memᴰ k σ) × (length ws ≤ length σ)
+
+-- Witness: refused with the number of the first check that fails, with 11 where the pair is no race, and the buffer stays; else a list that is a
+-- witness, in one or the other words, is written into the buffer
+pub data Witnessed (t : List Event) (p q : ℕ) (shows : List ℕ → Type 0) (before : List ℕ) : Result ℕ WitnessFault → List ℕ → Type 0 where
+  refused : {f : PairFault} → pair-refusal t p q ≡ Some (pair-number f) → Witnessed t p q shows before (Err (Pair f)) before
+  no-race : pair-refusal t p q ≡ None → (Races t p q → ⊥) → Witnessed t p q shows before (Err None-to-show) before
+  written : {ws after : List ℕ} {r : Result ℕ BufferFault} → pair-refusal t p q ≡ None → Races t p q → shows ws → Filled ws before r after
+      → Witnessed t p q shows before (as-witness r) after
 
 -- p and q are a racing pair: they can be asked about, and they race
 abbrev pub RacingPair : List Event → ℕ → ℕ → Type 0
@@ -116,3 +123,9 @@ InOrder (x ∷ xs) = ((y : RacePair) → List·Memᴰ y xs → StandsBefore x y)
 pub record SweepOf (t : List Event) (xs : List RacePair) : Type 0 where
   pub in-order : InOrder xs
   pub exact : (p q : ℕ) → List·Memᴰ (pair p q) xs ↔ RacingPair t p q
+
+-- Sweep: the racing pairs are written into the buffer
+pub record Swept (t : List Event) (before : List RacePair) (r : Result ℕ BufferFault) (after : List RacePair) : Type 0 where
+  pub pairs : List RacePair
+  pub all : SweepOf t pairs
+  pub written : Filled pairs before r after

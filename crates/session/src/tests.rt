@@ -14,6 +14,7 @@ use crate::session::Session;
 use crate::verdict::PartnersFault;
 use crate::verdict::PartnersFaultDebug;
 use crate::verdict::PartnersFaultPartialEq;
+use crate::verdict::RacePair;
 use crate::verdict::Verdict;
 use crate::verdict::VerdictDebug;
 use crate::verdict::VerdictPartialEq;
@@ -254,6 +255,16 @@ fn reads_and_locks() -> Result<(), Fail> {
     )?;
     check_eq(buffer, [0])?;
     check_eq(e.partners(3, &mut buffer), Err(PartnersFault::NoEvent))?;
+    let mut pairs = [RacePair {
+        first: 9,
+        second: 9,
+    }; 4];
+    check_eq(e.sweep(&mut pairs).ok(), Some(3))?;
+    check_eq((pairs[0].first, pairs[0].second), (0, 1))?;
+    check_eq((pairs[2].first, pairs[2].second), (1, 2))?;
+    check_eq(pairs[3].first, 9)?;
+    check_eq(e.sweep(&mut pairs[0..2]), Err(BufferFault::Full))?;
+    check_eq((pairs[1].first, pairs[1].second), (0, 2))?;
     check_eq(number(e.vet(0, 3, &[])), Some(8))?;
     check_eq(number(e.vet(2, 2, &[])), Some(9))?;
     check_eq(number(e.unordered(3, 0)), Some(8))?;

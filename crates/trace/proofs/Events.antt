@@ -37,7 +37,7 @@ earlier-between t d p k a b h =
     record { before = h; first = a .first; second = b .first; first-is = a .first-is; second-is = b .first-is; same-thread = cc }
 
 -- a longer trace has the same events at the positions of the shorter
-nth-front : (t u : List Event) (k : ℕ) → k < length t → nth (t ++ u) k ≡ nth t k
+pub nth-front : (t u : List Event) (k : ℕ) → k < length t → nth (t ++ u) k ≡ nth t k
 nth-front [] u k h = absurd (omega arith)
 nth-front (x ∷ t) u zero h = refl
 nth-front (x ∷ t) u (suc k) h = nth-front t u k (omega arith)

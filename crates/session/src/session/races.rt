@@ -14,7 +14,7 @@ ghost use Rattle.session.specs.Buffers.{Filled, Collecting};
 ghost use denote.Ref.{name};
 ghost use mathlib.Core.List.{List, [], _∷_, _++_};
 ghost use Prim.Native.Nat.{ℕ};
-ghost use Rattle.session.specs.Races.{RacingPair, Witnessed, Races, OutsideSync, FoundRace, Judged};
+ghost use Rattle.session.specs.Races.{RacingPair, Witness, Shows, Witnessed, Races, OutsideSync, FoundRace, Judged};
 use crate::collector::BufferFault;
 use crate::collector::Collector;
 use crate::fault::PairFault;
@@ -96,7 +96,8 @@ impl<R: Reel> Session<R> {
 
     /// Witness: writes the events of the sync closure of the previous events of p and q, in trace order, and answers how many they are.
     pub fn witness(&self, p: usize, q: usize, buffer: &mut [u16]) -> Result<usize, WitnessFault>
-        ensures { λ r. let t = R·Reel .events (now (self .entry) .reel) in ⌜ (Stands (now (self .entry) .locks) t → Witnessed t p q (now (buffer .entry)) r (now (buffer .exit))) ⌝ }
+        ensures closure { λ r. let t = R·Reel .events (now (self .entry) .reel) in ⌜ (Stands (now (self .entry) .locks) t → Witnessed t p q (Witness t p q) (now (buffer .entry)) r (now (buffer .exit))) ⌝ }
+        ensures shows { λ r. let t = R·Reel .events (now (self .entry) .reel) in ⌜ (Stands (now (self .entry) .locks) t → Witnessed t p q (Shows t p q) (now (buffer .entry)) r (now (buffer .exit))) ⌝ }
     {
         self.check_pair(p, q)?;
         let Some(cut) = self.race(p, q) else {

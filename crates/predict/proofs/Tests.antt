@@ -21,9 +21,14 @@ some-below test zero = false
 some-below test (suc n) = test n || some-below test n
 
 -- it does just if there is such a position
+pub some-found-below : (test : ℕ → Bool) (n : ℕ) → some-below test n ≡ true → (k : ℕ) × (k < n) × (test k ≡ true)
+some-found-below test zero h = absurd (false≢true h)
+some-found-below test (suc n) h =
+    ⊎-elim (λ here. (n, omega arith, here)) (λ rest. let r = some-found-below test n rest in (r .0, let b = r .1 in omega arith, r .2))
+    (or-cases (test n) (some-below test n) h)
+
 pub some-found : (test : ℕ → Bool) (n : ℕ) → some-below test n ≡ true → (k : ℕ) × (test k ≡ true)
-some-found test zero h = absurd (false≢true h)
-some-found test (suc n) h = ⊎-elim (λ here. (n, here)) (λ rest. some-found test n rest) (or-cases (test n) (some-below test n) h)
+some-found test n h = let r = some-found-below test n h in (r .0, r .2)
 
 pub some-from : (test : ℕ → Bool) (n k : ℕ) → k < n → test k ≡ true → some-below test n ≡ true
 some-from test zero k b h = absurd (omega arith)

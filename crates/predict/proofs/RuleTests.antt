@@ -18,10 +18,10 @@ use Rattle.trace.specs.Cuts.HappensBeforeWants.{release-before}
 use Rattle.trace.specs.Cuts.SchedulableWants.{as-before, last-write as read-by}
 use Rattle.trace.proofs.Events.{at-inside}
 use Rattle.trace.proofs.Lookups.{is-release, as-release, last-write-found, release-found}
 use Rattle.predict.specs.Parts.{acquires, ReadWants}
 use Rattle.predict.proofs.Inside.{tested}
 use Rattle.predict.proofs.LockParts.{is-acquire, as-acquire}
-use Rattle.cases.proofs.Tests.{some-below, some-found, some-from, finds, found, found-from}
+use Rattle.predict.proofs.Tests.{some-below, some-found, some-from, finds, found, found-from}
 
 -- a test whether a cut wants a position
 abbrev pub Test : Type 0
