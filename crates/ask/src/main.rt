@@ -1,5 +1,7 @@
 //! Answers the questions about two positions of a dump from standard input: `ask P Q [POSITION ..]`, where the further positions are the
 //! list that Vet is asked about.
+#![tactic(auto)]
+
 use anyhow::anyhow;
 use report::questions::answers_of;
 use std::env;

@@ -1,5 +1,7 @@
 //! Compares the answers of sessions with a search through every reordering, on all small traces of some shapes and on larger ones that a
 //! fixed generator draws; prints what was tried, and how many answers differ.
+#![tactic(auto)]
+
 use anyhow::anyhow;
 use plan::{Choice, Plan};
 use shape::Shape;

@@ -1,4 +1,6 @@
 //! The entry for a C host: whether two events of a dump race, as one number.
+#![tactic(auto)]
+
 ghost use Rattle.std.specs.Prelude.{◌≡◌};
 ghost use Rattle.trace.specs.Faults.{told};
 ghost use Rattle.host.specs.declared.HostFault.TheVariants.{Load, Judge};

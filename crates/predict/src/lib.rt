@@ -1,4 +1,6 @@
 //! Which events a cut of a trace wants, and the closures of events under such rules.
+#![tactic(auto)]
+
 pub mod closure;
 pub mod cut;
 mod locks;

@@ -1,4 +1,6 @@
 //! Prints the race report of a dump from standard input, or the first record that is refused.
+#![tactic(auto)]
+
 use report::races::race_report_of;
 use std::io::Read;
 

@@ -1,4 +1,6 @@
 //! Performs the calls of a script from standard input on one session, and prints every reply.
+#![tactic(auto)]
+
 use replies::played_in;
 use script::requests;
 use std::io;

@@ -1,4 +1,6 @@
 //! Reels, which keep the events of a trace: what each reel offers, and two of them.
+#![tactic(auto)]
+
 ghost use Rattle.std.specs.Prelude.{◌≡◌, ℕ, ◌≤◌, List, [], length};
 ghost use Rattle.std.specs.List.{slice_get};
 ghost use Rattle.trace.specs.declared.event.Event.{Event};

@@ -1,2 +1,4 @@
 //! Which lists of positions reorder a trace.
+#![tactic(auto)]
+
 pub mod vet;

@@ -1,4 +1,6 @@
 //! The texts that the programs print.
+#![tactic(auto)]
+
 pub mod listing;
 pub mod questions;
 pub mod races;

@@ -1,4 +1,6 @@
 //! A run: any list of requests, performed on a session that is opened for it.
+#![tactic(auto)]
+
 ghost use Rattle.std.specs.Prelude.{◌≡◌, ℕ, IfOk, OnOk};
 ghost use Rattle.session.specs.Entries.{Stands};
 ghost use Rattle.run.specs.Runs.{trace_after, Replies, Upholds};

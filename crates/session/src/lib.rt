@@ -1,2 +1,4 @@
 //! A session over a reel: records go in one after another, and what they hold can be asked for.
+#![tactic(auto)]
+
 pub mod session;

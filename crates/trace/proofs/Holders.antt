@@ -1,12 +1,18 @@
 -- What one event does to the holder of a lock, and what a list of events does, front and back.
 use Rattle.std.proofs.Common.{◌≡◌, ℕ, true, cond, eqb, ◌↔◌, List, [], ◌∷◌, ◌++◌, Some, None, Option, sym, refl, ap, ◌∙◌, ⊎_elim, arith}
 use Rattle.std.proofs.lemmas.Bool.{cases_eq, eq-eqb, ne_eqb}
-use Rattle.std.proofs.lemmas.Map.{update_here, update_apart}
 use Rattle.trace.specs.declared.event.Event.{Event}
 use Rattle.trace.specs.declared.kind.Kind.{Kind}
 use Rattle.trace.specs.declared.kind.Kind.TheVariants.{Read, Write, Acquire, Release}
 use Rattle.trace.specs.Limits.{accesses}
-use Rattle.trace.specs.Traces.{Holders, turn, after_event, after, refusal_by, trace_refusal, Allowed, AdmitsFrom}
+use Rattle.trace.specs.Traces.{Holders, give, turn, after_event, after, refusal_by, trace_refusal, Allowed, AdmitsFrom}
+
+-- the holder of a lock that is given, and that of another
+give_here : (h : Holders) (l : ℕ) (w : Option ℕ) → give h l w l ≡ w
+give_here h l w = let b = eq-eqb l l refl in rw b refl
+
+give_apart : (h : Holders) (l : ℕ) (w : Option ℕ) (m : ℕ) → (m ≡ l → ⊥) → give h l w m ≡ h m
+give_apart h l w m n = let b = ne_eqb m l n in rw b refl
 
 -- an event is quiet at the lock l if it leaves the holder of l alone
 abbrev pub Quiet : ℕ → Event → Type 0
@@ -25,17 +31,17 @@ does l e = of_kind e.kind refl
     of_kind : (k : Kind) → e.kind ≡ k → Does l e
     of_kind Read q = nothing (λ h. rw q refl)
     of_kind Write q = nothing (λ h. rw q refl)
-    of_kind Acquire q = ⊎_elim (acquires q) (λ n. nothing (λ h. rw q (update_apart h e.subject (Some e.thread) l (λ r. n (sym r)))))
+    of_kind Acquire q = ⊎_elim (acquires q) (λ n. nothing (λ h. rw q (give_apart h e.subject (Some e.thread) l (λ r. n (sym r)))))
         (cases_eq e.subject l)
-    of_kind Release q = ⊎_elim (releases q) (λ n. nothing (λ h. rw q (update_apart h e.subject None l (λ r. n (sym r))))) (cases_eq e.subject l)
+    of_kind Release q = ⊎_elim (releases q) (λ n. nothing (λ h. rw q (give_apart h e.subject None l (λ r. n (sym r))))) (cases_eq e.subject l)
 
 module _ (e : Event) where
   -- who holds the lock after an acquire and after a release of it
   pub acquired : (h : Holders) {l : ℕ} → e.kind ≡ Acquire → e.subject ≡ l → after_event h e l ≡ Some e.thread
-  acquired h q r = ap (after_event h e) (sym r) ∙ rw q (update_here h e.subject (Some e.thread))
+  acquired h q r = ap (after_event h e) (sym r) ∙ rw q (give_here h e.subject (Some e.thread))
 
   pub released : (h : Holders) {l : ℕ} → e.kind ≡ Release → e.subject ≡ l → after_event h e l ≡ None
-  released h q r = ap (after_event h e) (sym r) ∙ rw q (update_here h e.subject None)
+  released h q r = ap (after_event h e) (sym r) ∙ rw q (give_here h e.subject None)
 
   -- the trace check lets a lock be acquired just if it is free
   pub may_acquire : (h : Holders) → e.kind ≡ Acquire → Allowed h e → h e.subject ≡ None

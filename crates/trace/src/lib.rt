@@ -1,4 +1,6 @@
 //! Traces of events: the events, their records, who holds which lock, and the theory of reorderings.
+#![tactic(auto)]
+
 pub mod event;
 pub mod kind;
 pub mod limits;

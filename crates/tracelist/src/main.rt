@@ -1,4 +1,6 @@
 //! Prints a dump from standard input event by event, or the first record that is refused.
+#![tactic(auto)]
+
 use report::listing::listing_of;
 use std::io::Read;
 
