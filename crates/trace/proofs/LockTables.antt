@@ -1,5 +1,5 @@
 -- What becomes of the table of lock states with one event.
-use Rattle.std.proofs.Common.{◌≡◌, ℕ, ◌<◌, true, false, cond, eqb, List, [], ◌∷◌, ◌++◌, length, get_or, set, Some, None, Ok, Err, Option, sym, refl, ap, ◌∙◌, ⊎_elim, arith, get_or-set_other, get_or-set_same}
+use Rattle.std.proofs.Common.{◌≡◌, ℕ, ◌<◌, true, false, cond, eqb, List, [], ◌∷◌, length, get_or, set, Some, None, Ok, Err, sym, refl, ap, ◌∙◌, ⊎_elim, arith, get_or-set_other, get_or-set_same}
 use Rattle.std.proofs.lemmas.Bool.{cases_eq, eq-eqb, ne_eqb}
 use Rattle.trace.specs.declared.event.Event.{Event}
 use Rattle.trace.specs.declared.kind.Kind.{Kind}
@@ -10,7 +10,7 @@ use Rattle.trace.specs.declared.locks.LockTable.{LockTable}
 use Rattle.trace.specs.declared.locks.TraceFault.{TraceFault}
 use Rattle.trace.specs.Limits.{accesses}
 use Rattle.trace.specs.Faults.{trace_number}
-use Rattle.trace.specs.Traces.{all_free, after_event, after, holders_after, trace_refusal}
+use Rattle.trace.specs.Traces.{all_free, after_event, holders_after, trace_refusal}
 use Rattle.trace.specs.Locks.{holder, holders, Turned}
 use Rattle.trace.proofs.Holders.{after_append, same_refusal, same_turn}
 

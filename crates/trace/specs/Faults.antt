@@ -1,5 +1,5 @@
 -- The numbers of the refusals that this crate gives.
-use Rattle.std.specs.Prelude.{◌≡◌, ℕ, Some, None, Ok, Err, Option, Result}
+use Rattle.std.specs.Prelude.{ℕ, Some, None, Ok, Err, Option, Result}
 use Rattle.trace.specs.declared.record.RecordFault.{RecordFault}
 use Rattle.trace.specs.declared.record.RecordFault.TheVariants.{Length, Kind, Thread, Subject}
 use Rattle.trace.specs.declared.locks.TraceFault.{TraceFault}

@@ -1,12 +1,12 @@
 -- What the table of lock states says.
-use Rattle.std.specs.Prelude.{◌≡◌, ℕ, Bool, true, false, cond, List, [], ◌∷◌, ◌++◌, is_ok, Some, None, Option, Result, slice_index_or}
+use Rattle.std.specs.Prelude.{◌≡◌, ℕ, false, cond, List, [], ◌∷◌, ◌++◌, is_ok, Some, None, Option, Result, slice_index_or}
 use Rattle.trace.specs.declared.event.Event.{Event}
 use Rattle.trace.specs.declared.locks.LockState.{LockState}
 use Rattle.trace.specs.declared.locks.LockState.TheVariants.{Free, Held}
 use Rattle.trace.specs.declared.locks.TraceFault.{TraceFault}
 use Rattle.trace.specs.declared.locks.LockTable.{LockTable}
 use Rattle.trace.specs.Faults.{trace_number, refusal_in}
-use Rattle.trace.specs.Traces.{Holders, all_free, after_event, holders_after, trace_refusal}
+use Rattle.trace.specs.Traces.{Holders, holders_after, trace_refusal}
 
 -- the thread that holds a lock in a state
 abbrev pub holder : LockState → Option ℕ

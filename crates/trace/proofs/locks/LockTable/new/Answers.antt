@@ -1,4 +1,4 @@
-use Rattle.std.proofs.Common.{◌≡◌, ◌<◌, ◌≤◌, get_or, replicate, refl, ap, ⊎_elim}
+use Rattle.std.proofs.Common.{◌<◌, ◌≤◌, replicate, ap, ⊎_elim}
 use Rattle.std.proofs.lemmas.List.{get_or-replicate, get_or_past}
 use Rattle.std.proofs.lemmas.Bool.{cases_lt}
 use Rattle.trace.specs.declared.locks.LockState.TheVariants.{Free}

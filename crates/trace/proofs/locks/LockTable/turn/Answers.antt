@@ -2,8 +2,8 @@ use Rattle.std.proofs.Common.{refl, arith}
 use Rattle.trace.proofs.LockTables.{turned_access, turned_acquire, turned_release}
 use Rattle.trace.proofs.locks.LockTable.turn.Goals as goal
 
-pub returns-then-is-access : goal.returns-then-is-access
-returns-then-is-access c = turned_access c.args.self.now c.args.event.now (cc)
+pub returns-then-is_access : goal.returns-then-is_access
+returns-then-is_access c = turned_access c.args.self.now c.args.event.now (cc)
 
 pub returns-in-Free-Acquire : goal.returns-in-Free-Acquire
 returns-in-Free-Acquire c =
