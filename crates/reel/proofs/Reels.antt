@@ -1,5 +1,5 @@
 -- Whether a reel has room for an event more.
-use Rattle.std.proofs.Common.{◌≡◌, ℕ, ◌<◌, ◌≤◌, List, length, Some, None, sym}
+use Rattle.std.proofs.Common.{◌≡◌, ℕ, ◌<◌, ◌≤◌, List, length, Some, None}
 use Rattle.std.proofs.lemmas.Bool.{lt-ltb, le-ltb}
 use Rattle.trace.specs.declared.event.Event.{Event}
 use Rattle.reel.specs.Reels.{reel_refusal}

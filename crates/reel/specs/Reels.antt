@@ -1,5 +1,5 @@
 -- What taking an event into a reel comes to.
-use Rattle.std.specs.Prelude.{◌≡◌, ℕ, cond, List, [], ◌∷◌, ◌++◌, length, Some, None, Option, Result, nat_lt}
+use Rattle.std.specs.Prelude.{◌≡◌, ℕ, cond, List, length, Some, None, Option, Result, nat_lt}
 use Rattle.trace.specs.declared.event.Event.{Event}
 use Rattle.trace.specs.Faults.{refusal_in}
 use Rattle.trace.specs.Locks.{with_taken}

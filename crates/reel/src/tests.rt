@@ -24,7 +24,7 @@ fn host_reel_writes_records(rt: HostRuntime) -> Result<(), Fail> {
         reel.wipe();
         assert_eq!(rt; reel.count(), 0);
     }
-    assert_eq!(rt; &bytes[8..16], &[2, 3, 0xe8, 3, 4, 3, 2, 1]);
+    assert_eq!(rt; &bytes[8..16], [2, 3, 0xe8, 3, 4, 3, 2, 1].as_slice());
     assert_eq!(rt; bytes[16], 0xff);
     Ok(())
 }

@@ -9,14 +9,14 @@ returns-then-self-capacity c =
     let n = c.args.self.now.counted in
     record { taken = record { answer = is_full _ (held c.args.self.now) (omega arith); events = refl }; same = refl; bytes = refl; lender = refl }
 
-pub invariant-of-self : goal.invariant-of-self
-invariant-of-self c =
-    let g = grows c.args.self.now c.args.e _ (omega arith) (c.copy-from-slice.ensures.after ∙ c.encode.ensures.bytes) in
+pub invariant_of-self : goal.invariant_of-self
+invariant_of-self c =
+    let g = grows c.args.self.now c.args.e _ (omega arith) (c.copy_from_slice.ensures.after ∙ c.encode.ensures.bytes) in
     let r = g.room in
-    (omega arith, (g.records, (g.counted, tt)))
+    record { within = omega arith; records = g.records; counted = g.counted }
 
 pub returns : goal.returns
 returns c =
     let n = c.args.self.now.counted in
-    let g = grows c.args.self.now c.args.e _ (omega arith) (c.copy-from-slice.ensures.after ∙ c.encode.ensures.bytes) in
+    let g = grows c.args.self.now c.args.e _ (omega arith) (c.copy_from_slice.ensures.after ∙ c.encode.ensures.bytes) in
     record { taken = record { answer = has_room _ (held c.args.self.now) (omega arith); events = g.events }; same = g.room; bytes = g.bytes; lender = refl }
