@@ -1,7 +1,7 @@
 -- The numbers of verdicts, and the numbers and layers of the refusals of calls about races.
 use Rattle.std.specs.Prelude.{ℕ}
 use Rattle.answer.specs.declared.fault.Layer.{Layer}
-use Rattle.answer.specs.declared.fault.Layer.TheVariants.{Pair, Verdict, Buffer}
+use Rattle.answer.specs.declared.fault.Layer.TheVariants.{Pair, Verdict}
 use Rattle.answer.specs.declared.verdict.Verdict.{Verdict as Judgement}
 use Rattle.answer.specs.declared.verdict.Verdict.TheVariants.{Race, NoRace}
 use Rattle.answer.specs.declared.verdict.WitnessFault.{WitnessFault}

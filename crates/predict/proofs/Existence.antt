@@ -1,10 +1,9 @@
 -- Seeds of a trace that the trace check admits have a closure under each rule that a test decides.
-use Rattle.std.proofs.Common.{◌≡◌, ℕ, zero, suc, ◌<◌, ◌≤◌, Bool, true, false, not, ◌&&◌, List, length, replicate, fold, sym, refl, ◌∙◌, ⊎_elim, arith}
+use Rattle.std.proofs.Common.{◌≡◌, ℕ, zero, suc, ◌<◌, ◌≤◌, Bool, true, false, not, ◌&&◌, List, length, replicate, fold, refl, ◌∙◌, ⊎_elim, arith}
 use Rattle.std.proofs.lemmas.Bool.{cases_Bool, both_ways, and_parts, and_from, not-true, not_from_false}
-use Rattle.std.proofs.lemmas.List.{length-replicate}
 use Rattle.trace.specs.declared.event.Event.{Event}
 use Rattle.trace.specs.Traces.{Admits}
-use Rattle.trace.specs.Cuts.{In, Inside, Wants, Laws, Closed, AllReached}
+use Rattle.trace.specs.Cuts.{Inside, Wants, Laws, Closed, AllReached}
 use Rattle.trace.proofs.Growing.{wanted_inside}
 use Rattle.predict.specs.Held.{held, taken_in, SeedsWithin, Closes}
 use Rattle.predict.proofs.Bounds.{held_cut}

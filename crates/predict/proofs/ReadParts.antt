@@ -6,8 +6,8 @@ use Rattle.std.proofs.lemmas.List.{length-set, get_or-set_same, get_or-set_other
 use Rattle.trace.specs.declared.event.Event.{Event}
 use Rattle.trace.specs.declared.kind.Kind.{Kind}
 use Rattle.trace.specs.declared.kind.Kind.TheVariants.{Read, Write, Acquire, Release}
-use Rattle.trace.specs.Traces.{At, LastWrite}
-use Rattle.trace.specs.Lookups.{fits_here, writing, writes, latest, last_write}
+use Rattle.trace.specs.Traces.{LastWrite}
+use Rattle.trace.specs.Lookups.{fits_here, writing, writes, latest}
 use Rattle.trace.specs.Cuts.{In}
 use Rattle.trace.proofs.Events.{at_inside, at_same}
 use Rattle.trace.proofs.Lookups.{last_write_found}

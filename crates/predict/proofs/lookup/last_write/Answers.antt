@@ -6,17 +6,17 @@ use Rattle.predict.proofs.lookup.last_write.Goals as goal
 
 pub loop-k-init : goal.loop-k-init
 loop-k-init g c =
-    let kind : c.in-ok-read.read.kind ≡ Read = search rules in
-    sym (write_search (g.R.Reel.events c.args.reel.now) c.args.position c.in-ok-read.read (sym c.in-ok-read.ensures) kind)
+    let kind : c.in_ok-read.read.kind ≡ Read = search rules in
+    sym (write_search (g.R.Reel.events c.args.reel.now) c.args.position c.in_ok-read.read (sym c.in_ok-read.ensures) kind)
 
 pub loop-k-preserved : goal.loop-k-preserved
 loop-k-preserved g c =
-    latest_below_skip (writes c.in-ok-read.read.subject) (g.R.Reel.events c.args.reel.now) c.loop-k.k c.loop-k-test.true
-    c.if-is-write-at.ensures
+    latest_below_skip (writes c.in_ok-read.read.subject) (g.R.Reel.events c.args.reel.now) c.loop-k.k c.loop-k-test.true
+    c.if-is_write_at.ensures
     ∙ c.loop-k.invariant
 
-pub returns-then-is-write-at : goal.returns-then-is-write-at
-returns-then-is-write-at g c =
-    latest_below_here (writes c.in-ok-read.read.subject) (g.R.Reel.events c.args.reel.now) c.loop-k.k c.loop-k-test.true
-    c.if-is-write-at.ensures
+pub returns-then-is_write_at : goal.returns-then-is_write_at
+returns-then-is_write_at g c =
+    latest_below_here (writes c.in_ok-read.read.subject) (g.R.Reel.events c.args.reel.now) c.loop-k.k c.loop-k-test.true
+    c.if-is_write_at.ensures
     ∙ c.loop-k.invariant

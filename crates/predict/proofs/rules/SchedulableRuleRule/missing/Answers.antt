@@ -8,6 +8,6 @@ returns-in-Some g c =
 
 pub returns-in-None : goal.returns-in-None
 returns-in-None g c =
-    let h = schedulable_second (g.R.Reel.events c.args.reel.now) c.args.cut.now.bounds c.in-None.ensures c.missing-write.result
-    c.missing-write.ensures in
+    let h = schedulable_second (g.R.Reel.events c.args.reel.now) c.args.cut.now.bounds c.in-None.ensures c.missing_write.result
+    c.missing_write.ensures in
     record { outside = h.outside; exact = λ ok. h.exact }

@@ -8,6 +8,6 @@ returns-in-Some g c =
 
 pub returns-in-None : goal.returns-in-None
 returns-in-None g c =
-    let h = sync_second (g.R.Reel.events c.args.reel.now) c.args.cut.now.bounds c.in-None.ensures c.missing-release.result
-    c.missing-release.ensures in
+    let h = sync_second (g.R.Reel.events c.args.reel.now) c.args.cut.now.bounds c.in-None.ensures c.missing_release.result
+    c.missing_release.ensures in
     record { outside = h.outside; exact = λ ok. h.exact }
