@@ -1,7 +1,8 @@
 -- The tests of an event that should come next tell whether it may.
-use Rattle.std.proofs.Common.{◌≡◌, ℕ, Bool, true, false, ◌↔◌, List, [], ◌∷◌, ◌++◌, is_ok, Some, None, Decides, Option, Result, sym, refl, ap, ◌∙◌, subst, arith, MatchOption}
+use Rattle.std.proofs.Common.{◌≡◌, ℕ, Bool, true, ◌↔◌, List, [], ◌∷◌, ◌++◌, is_ok, Some, None, Option, Result, sym, refl, ap, ◌∙◌, subst, arith, eqb}
 use Rattle.std.specs.List.{slice_get}
-use Rattle.std.proofs.lemmas.Bool.{both_ways, cond-true}
+use Rattle.std.specs.Option.{option_eq}
+use Rattle.std.proofs.lemmas.Bool.{both_ways, cond-true, eq-eqb, eqb-true}
 use Rattle.trace.specs.declared.event.Event.{Event}
 use Rattle.trace.specs.declared.kind.Kind.TheVariants.{Read, Acquire}
 use Rattle.trace.specs.declared.locks.LockTable.{LockTable}
@@ -20,14 +21,14 @@ use Rattle.reorder.specs.Comes.{AcquiredBefore, Agrees, Comes, Answered}
 
 -- what `==` tells of two optional numbers
 abbrev pub Equal : Option ℕ → Option ℕ → Bool → Type 0
-Equal o p r = MatchOption o (MatchOption p (r ≡ true) (λ y. r ≡ false)) (λ x. MatchOption p (r ≡ false) (λ y. Decides r (x ≡ y)))
+Equal o p r = r ≡ option_eq eqb o p
 
 -- that is whether they are equal
 equal : (o p : Option ℕ) (r : Bool) → Equal o p r → (r ≡ true) ↔ (o ≡ p)
 equal None None r h = (λ q. refl, λ q. h)
 equal None (Some y) r h = (λ q. absurd (both_ways r h q), λ q. absurd (grind arith))
 equal (Some x) None r h = (λ q. absurd (both_ways r h q), λ q. absurd (grind arith))
-equal (Some x) (Some y) r h = (λ q. ap Some (h.0 q), λ q. h.1 (cc))
+equal (Some x) (Some y) r h = (λ q. ap Some (eqb-true x y (sym h ∙ q)), λ q. h ∙ eq-eqb x y (cc))
 
 -- two optional numbers that are the same number, if either is one, are equal
 same_option : (o p : Option ℕ) → ((w : ℕ) → (o ≡ Some w) ↔ (p ≡ Some w)) → o ≡ p

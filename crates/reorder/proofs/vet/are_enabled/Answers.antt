@@ -11,12 +11,12 @@ loop-event-init g c ok e i = absurd (Memᴰ.not-nil i)
 pub loop-event-preserved : goal.loop-event-preserved
 loop-event-preserved g c ok =
     each_more (Enabled (g.R.Reel.events c.args.reel.now) c.args.list.now) c.args.events.now c.loop-event.event-index
-    c.loop-event-test.true (c.loop-event.invariant ok) ((c.is-enabled.ensures ok).0 c.if-not-is-enabled.false)
+    c.loop-event-test.true (c.loop-event.invariant ok) ((c.is_enabled.ensures ok).0 c.if-not-is_enabled.false)
 
-pub returns-then-not-is-enabled : goal.returns-then-not-is-enabled
-returns-then-not-is-enabled g c ok =
+pub returns-then-not-is_enabled : goal.returns-then-not-is_enabled
+returns-then-not-is_enabled g c ok =
     let i = in_list c.args.events.now c.loop-event.event-index c.loop-event-test.true in
-    (λ q. absurd (false≢true q), λ all. absurd (both_ways c.is-enabled.result c.if-not-is-enabled.true ((c.is-enabled.ensures ok).1 (all _ i))))
+    (λ q. absurd (false≢true q), λ all. absurd (both_ways c.is_enabled.result c.if-not-is_enabled.true ((c.is_enabled.ensures ok).1 (all _ i))))
 
 pub returns : goal.returns
 returns g c ok = (

@@ -14,19 +14,19 @@ loop-i-preserved g c =
     let xs = c.args.list.now in
     let i = c.loop-i.i in
     let (old, tells) = c.loop-i.invariant in
-    let answer = c.may-come.ensures old.correct tells in
+    let answer = c.may_come.ensures old.correct tells in
     rw (take_more xs i 0 c.loop-i-test.true) (
-      reorders_next (g.R.Reel.events c.args.reel.now) (take i xs) (get_or xs i 0) old (answer.right.0 c.if-not-may-come.false),
-      answer.told c.if-not-may-come.false,
+      reorders_next (g.R.Reel.events c.args.reel.now) (take i xs) (get_or xs i 0) old (answer.right.0 c.if-not-may_come.false),
+      answer.told c.if-not-may_come.false,
     )
 
-pub returns-then-not-may-come : goal.returns-then-not-may-come
-returns-then-not-may-come g c =
+pub returns-then-not-may_come : goal.returns-then-not-may_come
+returns-then-not-may_come g c =
     let (old, tells) = c.loop-i.invariant in
-    let answer = c.may-come.ensures old.correct tells in
+    let answer = c.may_come.ensures old.correct tells in
     let place = at_index c.args.list.now c.loop-i.i c.loop-i-test.true in (
       λ q. absurd (false≢true q),
-      λ r. absurd (both_ways c.may-come.result c.if-not-may-come.true
+      λ r. absurd (both_ways c.may_come.result c.if-not-may_come.true
           (answer.right.1 (comes_at (g.R.Reel.events c.args.reel.now) r place))),
     )
 

@@ -4,7 +4,7 @@ use Rattle.std.proofs.lemmas.List.{take_more, take_all}
 use Rattle.trace.specs.Reorderings.{LatestWrite}
 use Rattle.reorder.proofs.Writes.{no_latest_write, latest_write_here, latest_write_skip}
 use Rattle.reorder.proofs.vet.latest_write_in.Goals as goal
-use Rattle.reorder.proofs.vet.latest_write_in.Goals.{then-is-write-at, else-is-write-at}
+use Rattle.reorder.proofs.vet.latest_write_in.Goals.{then-is_write_at, else-is_write_at}
 
 pub loop-k-init : goal.loop-k-init
 loop-k-init g c w = (λ q. absurd (grind arith), λ l. absurd (no_latest_write (g.R.Reel.events c.args.reel.now) c.args.variable w l))
@@ -16,9 +16,9 @@ loop-k-preserved g c w =
     let xs = c.args.list.now in
     let i = c.loop-k.k-index in
     let k = get_or xs i 0 in
-    rw (take_more xs i 0 c.loop-k-test.true) (elim c.if-is-write-at.branch [
-      | then-is-write-at v ↦ rw v.latest_is (latest_write_here t x (take i xs) k v.if-is-write-at.ensures w)
-      | else-is-write-at v ↦ rw v.latest_is (Iff.trans (c.loop-k.invariant w) (latest_write_skip t x (take i xs) k v.if-is-write-at.ensures w))
+    rw (take_more xs i 0 c.loop-k-test.true) (elim c.if-is_write_at.branch [
+      | then-is_write_at v ↦ rw v.latest-is (latest_write_here t x (take i xs) k v.if-is_write_at.ensures w)
+      | else-is_write_at v ↦ rw v.latest-is (Iff.trans (c.loop-k.invariant w) (latest_write_skip t x (take i xs) k v.if-is_write_at.ensures w))
     ])
 
 pub returns : goal.returns
