@@ -1,7 +1,6 @@
 -- What closures say of two positions.
-use Rattle.std.proofs.Common.{◌≡◌, ℕ, ◌<◌, Bool, true, false, ltb, ◌↔◌, List, [], ◌∷◌, length, Some, None, Option, sym, refl, ◌∙◌, subst, inl, inr, ⊎_elim, arith}
+use Rattle.std.proofs.Common.{◌≡◌, ℕ, ◌<◌, Bool, true, ltb, ◌↔◌, List, [], ◌∷◌, Some, None, Option, sym, refl, ◌∙◌, subst, inl, inr, ⊎_elim, arith}
 use mathlib.Core.List.Memᴰ
-use mathlib.Core.List.{Memᴰ}
 use Rattle.std.specs.List.{slice_get}
 use Rattle.std.proofs.lemmas.Bool.{cases_Bool, ltb-true, true≢false}
 use Rattle.trace.specs.declared.event.Event.{Event}
@@ -9,11 +8,11 @@ use Rattle.trace.specs.Traces.{At, Previous}
 use Rattle.trace.specs.Conflicts.{conflict}
 use Rattle.trace.specs.Lookups.{previous}
 use Rattle.trace.specs.Orders.{SchedulableHappensBefore}
-use Rattle.trace.specs.Cuts.{Positions, In, Wants, Closure, SchedulableWants}
+use Rattle.trace.specs.Cuts.{In, Wants, Closure, SchedulableWants}
 use Rattle.trace.proofs.Events.{at_inside}
 use Rattle.trace.proofs.Lookups.{previous_found}
 use Rattle.trace.proofs.Closures.{closure_unique}
-use Rattle.predict.specs.Held.{held, lacks, Closes, SeedsWithin}
+use Rattle.predict.specs.Held.{held, lacks, SeedsWithin}
 use Rattle.predict.proofs.Inside.{lacks_outside, lacks_inside}
 use Rattle.session.specs.Questions.{refusal_of, pair_refusal, Outside, Schedulable, NotScheduledBefore}
 

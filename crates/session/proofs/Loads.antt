@@ -10,7 +10,7 @@ use Rattle.trace.specs.Records.{record_of}
 use Rattle.answer.specs.declared.fault.EntryFault.TheVariants.{Record}
 use Rattle.answer.specs.declared.fault.EntryRefusal.{EntryRefusal}
 use Rattle.answer.specs.Faults.{Refusal, refusal, at_index}
-use Rattle.session.specs.Entries.{offered, offer, records, record_count, enter_from, enter_all, load, Recorded, Stands, Takes}
+use Rattle.session.specs.Entries.{offered, offer, records, record_count, enter_from, enter_all, load, Stands, Takes}
 
 -- record i of some bytes
 abbrev pub piece : List ℕ → ℕ → List ℕ

@@ -1,9 +1,9 @@
 -- What the sync closure of the previous events of a pair says of its races.
-use Rattle.std.proofs.Common.{◌≡◌, ℕ, ◌<◌, Bool, true, false, ◌↔◌, List, [], ◌∷◌, length, Some, None, sym, refl, ◌∙◌, subst, ⊎_elim, arith}
+use Rattle.std.proofs.Common.{◌≡◌, ℕ, ◌<◌, ◌↔◌, List, [], ◌∷◌, length, Some, None, refl, ◌∙◌, subst, ⊎_elim, arith}
 use mathlib.Core.List.Memᴰ
 use mathlib.Core.List.{Memᴰ}
 use Rattle.trace.specs.declared.event.Event.{Event}
-use Rattle.trace.specs.Traces.{At, Admits}
+use Rattle.trace.specs.Traces.{Admits}
 use Rattle.trace.specs.Lookups.{previous_events}
 use Rattle.trace.specs.Cuts.{Positions, In, Closure, SyncWants, listed}
 use Rattle.trace.specs.SyncTheorems.{Apart}

@@ -4,7 +4,7 @@ use Rattle.std.specs.Prelude.{◌≡◌, ℕ, zero, suc, ◌+◌, ◌*◌, ◌/�
 use Rattle.std.specs.List.{flat_map}
 use Rattle.trace.specs.declared.event.Event.{Event}
 use Rattle.trace.specs.declared.locks.LockTable.{LockTable}
-use Rattle.trace.specs.Faults.{told, refusal_in}
+use Rattle.trace.specs.Faults.{told}
 use Rattle.trace.specs.Records.{meaning, record_of}
 use Rattle.trace.specs.Traces.{Admits, holders_after, trace_refusal}
 use Rattle.trace.specs.Locks.{Tells}

@@ -1,9 +1,9 @@
-use Rattle.std.proofs.Common.{◌≡◌, ℕ, List, [], sym, refl, ◌∙◌, subst, arith}
+use Rattle.std.proofs.Common.{◌≡◌, ℕ, [], refl, ◌∙◌, subst, arith}
 use Rattle.std.proofs.lemmas.Bool.{false≢true}
 use Rattle.answer.proofs.Collecting.{collecting_more}
 use Rattle.session.proofs.Partnering.{PartnersBelow, partners_none, partners_more, partners_skip, partners_all, partners_beyond, entries_none, entries_more}
 use Rattle.session.proofs.session.Session.collect_partners.Goals as goal
-use Rattle.session.proofs.session.Session.collect_partners.Goals.{then-races-beyond, else-races-beyond}
+use Rattle.session.proofs.session.Session.collect_partners.Goals.{then-races_beyond, else-races_beyond}
 
 pub returns-then-q-count : goal.returns-then-q-count
 returns-then-q-count g c =
@@ -22,23 +22,23 @@ loop-p-preserved g c =
     let t = g.R.Reel.events c.args.self.now.reel in
     let p = c.loop-p.p in
     let q = c.args.q in
-    elim c.if-races-beyond.branch [
-      | then-races-beyond w ↦
+    elim c.if-races_beyond.branch [
+      | then-races_beyond w ↦
           let e = w.push.ensures in
           rw w.out-is (
             λ ok. let i = c.loop-p.invariant.0 ok in (
               _,
-              partners_more t q i.1 ((w.if-races-beyond.ensures ok (c.closure-before-base.ensures ok)).0 refl),
+              partners_more t q i.1 ((w.if-races_beyond.ensures ok (c.closure_before-base.ensures ok)).0 refl),
               λ before list start.
                   entries_more (λ k. g.T.Entry.entry k q) before list _ _ _ i.0 p w.of.result w.of.ensures
                   (collecting_more before (i.2 before list start) w.of.result _ _ _ e.count e.full e.entries),
             ),
             e.lender ∙ c.loop-p.invariant.1,
           )
-      | else-races-beyond w ↦
+      | else-races_beyond w ↦
           rw w.out-is (
             λ ok. let i = c.loop-p.invariant.0 ok in
-                (i.0, partners_skip t q i.1 (λ racing. false≢true ((w.if-races-beyond.ensures ok (c.closure-before-base.ensures ok)).1 racing)), i.2),
+                (i.0, partners_skip t q i.1 (λ racing. false≢true ((w.if-races_beyond.ensures ok (c.closure_before-base.ensures ok)).1 racing)), i.2),
             c.loop-p.invariant.1,
           )
     ]

@@ -1,4 +1,4 @@
-use Rattle.std.proofs.Common.{◌≡◌, ℕ, List, [], ◌++◌, length, refl, ◌∙◌, subst, append_assoc, append-nil, arith}
+use Rattle.std.proofs.Common.{◌≡◌, ℕ, [], ◌++◌, length, refl, ◌∙◌, subst, append_assoc, append-nil, arith}
 use Rattle.session.proofs.Sweeping.{SweepBelow, pairs_with, sweep_none, sweep_more, sweep_all}
 use Rattle.session.proofs.session.Session.collect_sweep.Goals as goal
 
@@ -9,7 +9,7 @@ loop-q-init g c =
 pub loop-q-preserved : goal.loop-q-preserved
 loop-q-preserved g c =
     let t = g.R.Reel.events c.args.self.now.reel in
-    let e = c.collect-partners.ensures in (
+    let e = c.collect_partners.ensures in (
       λ ok. let i = c.loop-q.invariant.0 ok in
           let p = e.partners ok in (
             i.0 ++ pairs_with c.loop-q.q p.0,

@@ -3,10 +3,10 @@ use Rattle.std.proofs.lemmas.Result.{err_from_is_err_and}
 use Rattle.session.specs.Questions.Answers.{refused, answered}
 use Rattle.session.proofs.session.Session.vet.Goals as goal
 
-pub returns-in-err-check-pair : goal.returns-in-err-check-pair
-returns-in-err-check-pair g c =
-    let p = err_from_is_err_and c.from-residual.result c.from-residual.ensures.1 in
-    rw (p.1, p.2) (refused (sym c.in-err-check-pair.ensures))
+pub returns-in_err-check_pair : goal.returns-in_err-check_pair
+returns-in_err-check_pair g c =
+    let p = err_from_is_err_and c.from_residual.result c.from_residual.ensures.1 in
+    rw (p.1, p.2) (refused (sym c.in_err-check_pair.ensures))
 
 pub returns : goal.returns
-returns g c = answered (sym c.in-ok-check-pair.ensures) c.leaves.ensures
+returns g c = answered (sym c.in_ok-check_pair.ensures) c.leaves.ensures

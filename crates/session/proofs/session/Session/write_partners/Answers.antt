@@ -9,5 +9,5 @@ returns g c = λ ok.
     let before = c.args.buffer.now in
     let start : Collecting before [] c.over-out.result.entries.now c.over-out.result.count c.over-out.result.full =
     rw (c.over-out.ensures.entries, c.over-out.ensures.count, c.over-out.ensures.full) (collecting_none before) in
-    let p = c.collect-partners.ensures.partners ok in
+    let p = c.collect_partners.ensures.partners ok in
     rw c.answer.ensures (p.0, p.1, filled_as (search rules) (collected before (rw (map_same p.0) at (p.2 before [] start))))
