@@ -4,7 +4,7 @@ use Rattle.trace.specs.declared.event.Event.{Event}
 use Rattle.trace.specs.declared.kind.Kind.{Kind}
 use Rattle.trace.specs.declared.kind.Kind.TheVariants.{Read, Write, Acquire, Release}
 use Rattle.answer.specs.Faults.{Refusal}
-use Rattle.session.specs.Entries.{Outcome, enter_all}
+use Rattle.session.specs.Entries.{enter_all}
 
 -- what an event of a kind does, and to what
 abbrev pub deed : Kind → List ℕ

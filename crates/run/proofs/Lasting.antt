@@ -1,11 +1,11 @@
 -- What is so of two positions of a trace stays so when admitted events are added.
-use Rattle.std.proofs.Common.{◌≡◌, ℕ, zero, suc, ◌<◌, ◌≤◌, Bool, cond, ◌↔◌, List, [], ◌∷◌, ◌++◌, length, Some, None, Option, sym, refl, ap, ◌∙◌, subst, ap₂, ⊎_elim, arith}
+use Rattle.std.proofs.Common.{◌≡◌, ℕ, zero, suc, ◌<◌, ◌≤◌, Bool, ◌↔◌, List, [], ◌∷◌, ◌++◌, length, Some, None, Option, sym, refl, ◌∙◌, subst, ap₂, ⊎_elim, arith}
 use mathlib.Core.List.Memᴰ
 use mathlib.Core.List.{Memᴰ}
 use Rattle.std.specs.List.{slice_get}
 use Rattle.trace.specs.declared.event.Event.{Event}
 use Rattle.trace.specs.Traces.{all_free, Admits}
-use Rattle.trace.specs.Lookups.{fits_here, latest, of_thread, from_event, previous, after_some, previous_events}
+use Rattle.trace.specs.Lookups.{latest, of_thread, from_event, previous, previous_events}
 use Rattle.trace.specs.Reorderings.{Ascending}
 use Rattle.trace.specs.Cuts.{Positions, In, Closure, SyncWants, listed}
 use Rattle.trace.proofs.Events.{nth_front}

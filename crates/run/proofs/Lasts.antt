@@ -1,27 +1,24 @@
 -- What replies say of a pair lasts.
-use Rattle.std.proofs.Common.{◌≡◌, ℕ, ◌<◌, ◌≤◌, ◌↔◌, List, [], ◌∷◌, ◌++◌, length, take, drop, Some, None, Ok, Err, vec_items, Result, Vec, sym, refl, ap, ◌∙◌, subst, ⊎_elim, arith}
+use Rattle.std.proofs.Common.{◌≡◌, ℕ, ◌<◌, List, ◌++◌, length, take, drop, None, Ok, Err, vec_items, Result, Vec, sym, refl, subst}
 use mathlib.Core.List.{Memᴰ}
 use Rattle.std.specs.declared.alloc.Global.{Global}
 use Rattle.std.proofs.lemmas.List.{take_at}
 use Rattle.trace.specs.declared.event.Event.{Event}
 use Rattle.trace.specs.Traces.{Admits}
 use Rattle.trace.proofs.Events.{at_inside}
-use Rattle.answer.specs.declared.collector.BufferFault.{BufferFault}
-use Rattle.answer.specs.declared.verdict.RacePair.{RacePair}
 use Rattle.answer.specs.declared.verdict.Verdict.{Verdict}
 use Rattle.answer.specs.declared.verdict.Verdict.TheVariants.{Race, NoRace}
 use Rattle.answer.specs.declared.verdict.WitnessFault.{WitnessFault}
 use Rattle.answer.specs.declared.verdict.WitnessFault.TheVariants.{Pair, NoRace as None-to-show, Buffer}
 use Rattle.answer.specs.declared.verdict.PartnersFault.{PartnersFault}
-use Rattle.answer.specs.declared.verdict.PartnersFault.TheVariants.{NoEvent, Buffer as BufferOf}
 use Rattle.run.specs.declared.Request.{Request}
 use Rattle.run.specs.declared.Request.TheVariants.{Witness}
 use Rattle.run.specs.declared.Reply.{Reply}
 use Rattle.run.specs.declared.Reply.TheVariants.{Witness as Witnesses}
 use Rattle.answer.specs.Buffers.{Filled}
-use Rattle.answer.specs.Buffers.Filled.{whole, short}
+use Rattle.answer.specs.Buffers.Filled.{whole}
 use Rattle.session.specs.Questions.{pair_refusal}
-use Rattle.session.specs.Races.{Races, RacingPair, Judged, Shows, Witnessed, PartnersOf, Partnered, pair, SweepOf, Swept}
+use Rattle.session.specs.Races.{Races, RacingPair, Shows, Witnessed, PartnersOf, Partnered, pair}
 use Rattle.session.specs.Races.Judged.{refused as judge-refused, race, no_race}
 use Rattle.session.specs.Races.Witnessed.{refused as witness_refused, no_race as no-witness, written}
 use Rattle.session.specs.Races.Partnered.{refused as partners-refused, written as partners-written}

@@ -15,7 +15,7 @@ use Rattle.run.specs.declared.Request.TheVariants.{Witness}
 use Rattle.run.specs.declared.Reply.{Reply}
 use Rattle.run.specs.declared.Reply.TheVariants.{Witness as Witnesses}
 use Rattle.session.specs.Races.{Shows}
-use Rattle.run.specs.Runs.{trace_after, so_far, Replies, Says, Turn, Upholds}
+use Rattle.run.specs.Runs.{trace_after, so_far, Replies, Turn, Upholds}
 use Rattle.run.proofs.Lasting.{same_shown}
 use Rattle.run.proofs.SoFar.{Goes, so_far_goes, so_far_admitted}
 use Rattle.run.proofs.Lasts.{Decided, says_right, same_verdict, witness_answered}

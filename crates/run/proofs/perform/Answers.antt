@@ -1,5 +1,4 @@
-use Rattle.std.proofs.Common.{◌≡◌, length, vec_items, sym, refl, ap, ◌∙◌, subst, arith}
-use Rattle.run.specs.Runs.{Upholds}
+use Rattle.std.proofs.Common.{◌≡◌, length, vec_items, refl, ap, ◌∙◌, arith}
 use Rattle.run.proofs.Upholding.{each_none, turn_more, upholds}
 use Rattle.run.proofs.perform.Goals as goal
 
@@ -15,10 +14,10 @@ loop-request-init g c = (
 pub loop-request-preserved : goal.loop-request-preserved
 loop-request-preserved g c =
     let inv = c.loop-request.invariant in
-    let e = c.in-ok-reply.ensures in
+    let e = c.in_ok-reply.ensures in
     let after = e.events inv.1 in
     let m = turn_more (g.R.Reel.room c.open-session.result.reel) c.args.requests.now inv.0 inv.2 inv.3 (omega arith) c.request-item.is
-    (e.replies inv.1) after.0 c.in-ok-push.ensures.items inv.4 in
+    (e.replies inv.1) after.0 c.in_ok-push.ensures.items inv.4 in
     (e.room ∙ inv.0, after.1, m.0, m.1, m.2)
 
 pub returns : goal.returns

@@ -1,19 +1,18 @@
-use Rattle.std.proofs.Common.{◌≡◌, vec_items, sym, refl, ap, ◌∙◌}
+use Rattle.std.proofs.Common.{refl}
 use Rattle.std.proofs.lemmas.Result.{IfOk-weaker}
-use Rattle.session.specs.Entries.{enter, load}
 use Rattle.run.specs.Runs.Replies.{entered, loaded, judged}
 use Rattle.run.proofs.reply_to.Goals as goal
 
 pub returns-in-Enter : goal.returns-in-Enter
 returns-in-Enter g c =
-    let is = c.as-slice.ensures.value in
+    let is = c.as_slice.ensures.value in
     let taken = rw is at c.enter.ensures.takes in
     rw c.in-Enter.is
     (record { replies = λ s. entered (taken s).answer; events = λ s. ((taken s).events, (taken s).stands); room = c.enter.ensures.room })
 
 pub returns-in-Load : goal.returns-in-Load
 returns-in-Load g c =
-    let is = c.as-slice-in-Load.ensures.value in
+    let is = c.as_slice-in-Load.ensures.value in
     let taken = rw is at c.load.ensures.takes in
     rw c.in-Load.is
     (record { replies = λ s. loaded (taken s).answer; events = λ s. ((taken s).events, (taken s).stands); room = c.load.ensures.room })

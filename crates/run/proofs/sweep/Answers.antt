@@ -6,8 +6,8 @@ use Rattle.run.proofs.sweep.Goals as goal
 
 pub returns : goal.returns
 returns g c = λ room s.
-    let copy = c.in-ok-buffer.buffer in
+    let copy = c.in_ok-buffer.buffer in
     let last = c.sweep-answer.new.buffer in
     sweep_reply room (g.R.Reel.events c.args.session.now.reel) {before = c.args.buffer.now} {after = with_items copy last}
-    (c.as-mut-slice.ensures.value ∙ c.in-ok-buffer.ensures.items ∙ c.as-slice.ensures.value)
-    (with_items_is copy last (c.sweep-answer.auto.buffer ∙ c.as-mut-slice.ensures.len)) (c.sweep-answer.ensures s)
+    (c.as_mut_slice.ensures.value ∙ c.in_ok-buffer.ensures.items ∙ c.as_slice.ensures.value)
+    (with_items_is copy last (c.sweep-answer.auto.buffer ∙ c.as_mut_slice.ensures.len)) (c.sweep-answer.ensures s)

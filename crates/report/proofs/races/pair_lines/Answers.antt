@@ -3,12 +3,12 @@ use Rattle.std.proofs.lemmas.List.{take_all}
 use Rattle.report.specs.Reports.RaceLines.{none}
 use Rattle.report.proofs.Pairs.{lines_nowhere, partner_event, partner_more}
 use Rattle.report.proofs.races.pair_lines.Goals as goal
-use Rattle.report.proofs.races.pair_lines.Goals.{in-Some-event+in-ok-line+in-ok-push-str, in-default-event}
+use Rattle.report.proofs.races.pair_lines.Goals.{in-Some-event+in_ok-line+in_ok-push_str, in_default-event}
 
-pub returns-in-default : goal.returns-in-default
-returns-in-default g c = λ partners.
+pub returns-in_default : goal.returns-in_default
+returns-in_default g c = λ partners.
     let t = g.R.Reel.events c.args.session.now.reel in
-    rw c.new-text.ensures.bytes (lines_nowhere t c.args.q c.args.partners.now partners (sym c.in-default.ensures))
+    rw c.new-text.ensures.bytes (lines_nowhere t c.args.q c.args.partners.now partners (sym c.in_default.ensures))
 
 pub loop-partner-init : goal.loop-partner-init
 loop-partner-init g c = λ partners. rw c.new-text.ensures.bytes none
@@ -21,13 +21,13 @@ loop-partner-preserved g c =
     let i = c.loop-partner.partner-index in
     let p = c.from-p.result in
     elim c.match-event-2.branch [
-      | in-Some-event+in-ok-line+in-ok-push-str w ↦ λ partners.
-          let line = w.in-ok-line.ensures in
-          let pushed = w.in-ok-push-str.ensures.bytes in
-          rw (w.text_is, pushed, w.as-str.ensures.value, line)
+      | in-Some-event+in_ok-line+in_ok-push_str w ↦ λ partners.
+          let line = w.in_ok-line.ensures in
+          let pushed = w.in_ok-push_str.ensures.bytes in
+          rw (w.text-is, pushed, w.as_str.ensures.value, line)
           (partner_more t q ps partners i p w.in-Some-event.first c.in-Some.second (omega arith) c.from-p.ensures (sym w.in-Some-event.ensures)
           (sym c.in-Some.ensures) (c.loop-partner.invariant partners))
-      | in-default-event w ↦ λ partners. absurd (partner_event t q ps partners i p (omega arith) c.from-p.ensures (sym w.in-default-event.ensures))
+      | in_default-event w ↦ λ partners. absurd (partner_event t q ps partners i p (omega arith) c.from-p.ensures (sym w.in_default-event.ensures))
     ]
 
 pub returns : goal.returns

@@ -12,12 +12,12 @@ loop-q-init g c =
 pub loop-q-preserved : goal.loop-q-preserved
 loop-q-preserved g c =
     let t = g.R.Reel.events c.args.session.now.reel in
-    let pushed = c.in-ok-push-str.ensures.bytes in (
+    let pushed = c.in_ok-push_str.ensures.bytes in (
       c.loop-q.invariant.0,
       λ s. let i = c.loop-q.invariant.1 s in
           let long = c.loop-q.invariant.0 in
-          let p = c.in-ok-lines.ensures s (let n = c.as-mut-slice.ensures.len in omega arith) in
-          (i.0 ++ pairs_with c.loop-q.q p.partners, sweep_more t i.1 p.all, rw (pushed, c.as-str.ensures.value) (lines_append t i.2 p.lines)),
+          let p = c.in_ok-lines.ensures s (let n = c.as_mut_slice.ensures.len in omega arith) in
+          (i.0 ++ pairs_with c.loop-q.q p.partners, sweep_more t i.1 p.all, rw (pushed, c.as_str.ensures.value) (lines_append t i.2 p.lines)),
     )
 
 pub returns : goal.returns
