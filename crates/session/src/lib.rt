@@ -2,3 +2,5 @@
 #![tactic(auto)]
 
 pub mod session;
+#[cfg(test)]
+mod tests;
