@@ -1,30 +1,17 @@
 -- What becomes of the records of the examples.
-use Rattle.std.proofs.Common.{◌≡◌, ℕ, ◌<◌, refl}
+use Rattle.std.proofs.Common.{refl}
 use native.Mathlib.Decide.{dec_lt}
-use Rattle.trace.specs.Records.{record_of}
 use Rattle.trace.proofs.Records.{record_means}
 use Rattle.trace.specs.declared.kind.Kind.TheVariants.{Read, Write, Acquire, Release}
 use Rattle.std.proofs.lemmas.Bool.{lt-ltb}
-use Rattle.answer.specs.declared.fault.PairFault.TheVariants.{NoEvent, Order}
-use Rattle.session.specs.Entries.{enter}
-use Rattle.session.specs.Races.Judged.{refused}
-use Rattle.cases.specs.Examples.{event, one_locked}
-use Rattle.cases.specs.Cases.{taken, LocksRefused, PairsRefused, LastSubjects, SubjectsRefused, DumpLengths, LastRoom}
+use Rattle.cases.specs.Examples.{event}
+use Rattle.cases.specs.Cases.{LocksRefused, PairsRefused, LastSubjects, SubjectsRefused, DumpLengths, LastRoom}
 
 pub locks_refused : LocksRefused
-locks_refused room enough =
-    let h = lt-ltb 0 room enough in (
-      rw (record_means (event Acquire 0 0 tt tt), h) refl,
-      rw (record_means (event Release 1 0 tt tt)) refl,
-      rw (record_means (event Acquire 0 0 tt tt)) refl,
-    )
-
--- the release of the lock that is held
-pub release_entered : (room : ℕ) → 3 < room → enter room one_locked (record_of (event Release 0 0 tt tt)) ≡ taken one_locked (event Release 0 0 tt tt)
-release_entered room enough = let h = lt-ltb 3 room enough in rw (record_means (event Release 0 0 tt tt), h) refl
+locks_refused room = (rw (record_means (event Release 1 0 tt tt)) refl, rw (record_means (event Acquire 0 0 tt tt)) refl)
 
 pub pairs_refused : PairsRefused
-pairs_refused = ((NoEvent, refused refl, refl), (Order, refused refl, refl))
+pairs_refused = (refl, refl)
 
 pub last_subjects : LastSubjects
 last_subjects room enough =

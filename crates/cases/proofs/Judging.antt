@@ -1,38 +1,27 @@
 -- The answers on the six traces.
-use Rattle.std.proofs.Common.{true, false, List, [], ◌∷◌, ◌++◌, refl}
+use Rattle.std.proofs.Common.{true, false, [], ◌∷◌, ◌++◌, refl}
 use Rattle.trace.specs.declared.kind.Kind.TheVariants.{Release}
-use Rattle.trace.specs.declared.event.Event.{Event}
 use Rattle.trace.specs.Traces.{Admits}
-use Rattle.cases.specs.Examples.{event, sections_between, writes_locked, read_between, through_section, three_accesses, one_locked}
-use Rattle.cases.specs.Cases.{AllAdmitted, SectionsRace, SectionsOrdered, LockedNoRace, ReadNoRace, ReadRaces, ChainNoRace, OneLockedRaces}
-use Rattle.cases.proofs.Entering.{release_entered}
-use Rattle.cases.proofs.Asking.{judges_race, judges_none, writes, witness_refused, unordered_or_not, schedulable_or_not}
+use Rattle.cases.specs.Examples.{event, sections_between, writes_locked, read_between, through_section, one_locked}
+use Rattle.cases.specs.Cases.{SectionsRace, SectionsOrdered, LockedNoRace, ReadNoRace, ReadRaces, ChainNoRace, OneLockedRaces}
+use Rattle.cases.proofs.Asking.{judges_race, judges_none, witness_is, witness_refused, unordered_or_not, schedulable_or_not}
 
 -- the trace check admits these traces
 pub sections_admitted : Admits sections_between
 sections_admitted = (refl, (refl, (refl, (refl, (refl, (refl, tt))))))
 
-locked_admitted : Admits writes_locked
+pub locked_admitted : Admits writes_locked
 locked_admitted = (refl, (refl, (refl, (refl, (refl, (refl, tt))))))
 
-read_admitted : Admits read_between
+pub read_admitted : Admits read_between
 read_admitted = (refl, (refl, (refl, (refl, tt))))
 
-chain_admitted : Admits through_section
+pub chain_admitted : Admits through_section
 chain_admitted = (refl, (refl, (refl, (refl, (refl, (refl, (refl, (refl, (refl, tt)))))))))
-
-pub three_admitted : Admits three_accesses
-three_admitted = (refl, (refl, (refl, tt)))
-
-open_admitted : Admits one_locked
-open_admitted = (refl, (refl, (refl, tt)))
-
-pub all_admitted : AllAdmitted
-all_admitted = (sections_admitted, locked_admitted, read_admitted, chain_admitted, three_admitted, open_admitted)
 
 pub sections_race : SectionsRace
 sections_race =
-    (judges_race sections_between 0 5 sections_admitted refl (4 ∷ []) refl refl, writes sections_between 0 5 sections_admitted refl (4 ∷ []) refl refl)
+    (judges_race sections_between 0 5 sections_admitted refl (4 ∷ []) refl refl, witness_is sections_between 0 5 sections_admitted refl (4 ∷ []) refl)
 
 pub sections_ordered : SectionsOrdered
 sections_ordered = (
@@ -44,6 +33,7 @@ pub locked_no_race : LockedNoRace
 locked_no_race = (
   judges_none writes_locked 1 4 locked_admitted refl (2 ∷ 3 ∷ 0 ∷ []) refl refl,
   witness_refused writes_locked 1 4 locked_admitted refl (2 ∷ 3 ∷ 0 ∷ []) refl refl,
+  refl,
 )
 
 pub read_no_race : ReadNoRace
@@ -54,7 +44,7 @@ read_no_race = (
 )
 
 pub read_races : ReadRaces
-read_races = (judges_race read_between 1 2 read_admitted refl (0 ∷ []) refl refl, writes read_between 1 2 read_admitted refl (0 ∷ []) refl refl)
+read_races = (judges_race read_between 1 2 read_admitted refl (0 ∷ []) refl refl, witness_is read_between 1 2 read_admitted refl (0 ∷ []) refl)
 
 pub chain_no_race : ChainNoRace
 chain_no_race = (
@@ -62,11 +52,13 @@ chain_no_race = (
   unordered_or_not through_section 0 8 chain_admitted refl (5 ∷ 8 ∷ []) refl true refl,
 )
 
+pub open_admitted : Admits one_locked
+open_admitted = (refl, (refl, (refl, tt)))
+
 pub one_locked_races : OneLockedRaces
 one_locked_races =
-    let longer : List Event = one_locked ++ (event Release 0 0 tt tt ∷ []) in
-    let admitted : Admits longer = (refl, (refl, (refl, (refl, tt)))) in (
-      (judges_race one_locked 1 2 open_admitted refl (0 ∷ []) refl refl, writes one_locked 1 2 open_admitted refl (0 ∷ []) refl refl),
-      release_entered,
-      (judges_race longer 1 2 admitted refl (0 ∷ []) refl refl, writes longer 1 2 admitted refl (0 ∷ []) refl refl),
+    let longer = one_locked ++ (event Release 0 0 tt tt ∷ []) in
+    let longer_admitted : Admits longer = (refl, (refl, (refl, (refl, tt)))) in (
+      (judges_race one_locked 1 2 open_admitted refl (0 ∷ []) refl refl, witness_is one_locked 1 2 open_admitted refl (0 ∷ []) refl),
+      (judges_race longer 1 2 longer_admitted refl (0 ∷ []) refl refl, witness_is longer 1 2 longer_admitted refl (0 ∷ []) refl),
     )

@@ -5,3 +5,4 @@ pub mod Asking
 pub mod Judging
 pub mod Vetting
 pub mod Sweeping
+pub mod WholeAnswers

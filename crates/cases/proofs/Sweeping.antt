@@ -1,19 +1,19 @@
 -- The sweep of the three accesses.
-use Rattle.std.proofs.Common.{◌≡◌, ℕ, ◌<◌, List, [], ◌∷◌, take, Err, sym, refl, subst, inl, inr, ⊎_elim, arith, lit<}
+use Rattle.std.proofs.Common.{◌≡◌, ℕ, ◌<◌, List, [], ◌∷◌, length, take, Err, sym, refl, subst, inl, inr, ⊎_elim, arith, lit<}
 use mathlib.Core.List.Memᴰ
 use mathlib.Core.List.{Memᴰ}
 use Rattle.std.proofs.lemmas.Bool.{cases_lt}
+use Rattle.trace.specs.Traces.{Admits}
 use Rattle.trace.proofs.Events.{at_inside}
 use Rattle.answer.specs.declared.verdict.RacePair.{RacePair}
 use Rattle.answer.specs.declared.collector.BufferFault.TheVariants.{Full}
 use Rattle.answer.specs.Buffers.{Filled}
-use Rattle.answer.specs.Buffers.Filled.{whole, short}
+use Rattle.answer.specs.Buffers.Filled.{short}
 use Rattle.session.specs.Races.{pair, StandsBefore, RacingPair, SweepOf}
 use Rattle.session.proofs.Asked.{asked}
 use Rattle.cases.specs.Examples.{three_accesses}
 use Rattle.cases.specs.Cases.{three_pairs, ThreeSwept}
 use Rattle.cases.proofs.Asking.{races}
-use Rattle.cases.proofs.Judging.{three_admitted}
 
 -- something holds of each of a list
 abbrev Each : (RacePair → Type 0) → List RacePair → Type 0
@@ -35,8 +35,11 @@ every_pair p q b c =
     (λ l. let i : p ≡ 1 = omega arith in Memᴰ.tail (Memᴰ.tail (Memᴰ.head (rw (i, j) refl)))) (cases_lt p 1))
     (cases_lt q 2)
 
+pub three_admitted : Admits three_accesses
+three_admitted = (refl, (refl, (refl, tt)))
+
 -- the three pairs are the sweep
-sweep : SweepOf three_accesses three_pairs
+pub sweep : SweepOf three_accesses three_pairs
 sweep = record {
   in_order = (
     each (StandsBefore (pair 0 1)) (pair 0 2 ∷ pair 1 2 ∷ []) (inl (lit< tt), (inl (lit< tt), tt)),
@@ -51,13 +54,9 @@ sweep = record {
   );
 }
 
+-- a buffer of two has the first two when it is full
+pub two_filled : (buffer : List RacePair) → length buffer ≡ 2 → Filled three_pairs buffer (Err Full) (pair 0 1 ∷ pair 0 2 ∷ [])
+two_filled buffer two = subst (λ (n : ℕ). Filled three_pairs buffer (Err Full) (take n three_pairs)) two (short (rw two (lit< tt)))
+
 pub three_swept : ThreeSwept
-three_swept = (
-  λ buffer enough. record { pairs = three_pairs; all = sweep; written = whole enough },
-  λ buffer two. record {
-    pairs = three_pairs;
-    all = sweep;
-    written = subst (λ (n : ℕ). Filled three_pairs buffer (Err Full) (take n three_pairs)) two (short (rw two (lit< tt)));
-  },
-  refl,
-)
+three_swept = (sweep, two_filled, refl)

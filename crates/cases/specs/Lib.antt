@@ -1,3 +1,4 @@
 -- The traces of the worked examples, and what is said of them.
 pub mod Examples
 pub mod Cases
+pub mod WholeAnswers

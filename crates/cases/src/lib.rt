@@ -1,17 +1,25 @@
-//! Worked examples of what a session answers. The contract of the one function is the list of them, so the crate is proved
-//! only with their proofs; the number that it returns says nothing.
+//! Worked examples of what a session answers. The contracts of the two functions are lists of them, so the crate is proved
+//! only with their proofs; the numbers that they return say nothing.
 #![tactic(auto)]
 
-ghost use Rattle.cases.specs.Cases.{AllAdmitted, SectionsRace, SectionsOrdered, LockedNoRace, ReadNoRace, ReadRaces, ChainNoRace, ThreeSwept, OneLockedRaces, WitnessVetted};
+ghost use Rattle.cases.specs.Cases.{SectionsRace, SectionsOrdered, LockedNoRace, ReadNoRace, ReadRaces, ChainNoRace, ThreeSwept, OneLockedRaces, WitnessVetted};
 ghost use Rattle.cases.specs.Cases.{LocksRefused, PairsRefused, LastSubjects, SubjectsRefused, DumpLengths, LastRoom};
+ghost use Rattle.cases.specs.WholeAnswers.{AllAdmitted, SectionsWritten, LockedRefused, ReadWritten, ThreeWritten, OneLockedEntered, LocksEntered, JudgeRefused};
 
 #[cfg(test)]
 mod tests;
 
 /// The answers on six small traces, and at the limits of records, dumps and reels.
 pub fn worked_cases() -> u8
-    ensures { AllAdmitted × SectionsRace × SectionsOrdered × LockedNoRace × ReadNoRace × ReadRaces × ChainNoRace × ThreeSwept × OneLockedRaces × WitnessVetted
+    ensures { SectionsRace × SectionsOrdered × LockedNoRace × ReadNoRace × ReadRaces × ChainNoRace × ThreeSwept × OneLockedRaces × WitnessVetted
         × LocksRefused × PairsRefused × LastSubjects × SubjectsRefused × DumpLengths × LastRoom }
+{
+    0
+}
+
+/// The same on some of them by the whole answers: the buffers of Witness and Sweep, and the refusals of Judge and Witness.
+pub fn whole_answers() -> u8
+    ensures { AllAdmitted × SectionsWritten × LockedRefused × ReadWritten × ThreeWritten × OneLockedEntered × LocksEntered × JudgeRefused }
 {
     0
 }
