@@ -1,7 +1,7 @@
 /*
  * Whether two events of a dump race.
  *
- * "rt staticlib host" proves the library and writes target/staticlib/libhost.a,
+ * "rt lib" in crates/host proves the library and writes crates/host/out/libhost.a,
  * for Linux on x86-64. Link that archive; of the C library it needs memset alone.
  *
  * A dump is a trace of one run: records of eight bytes, one for each event, with no

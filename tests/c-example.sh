@@ -7,9 +7,9 @@
 set -eu
 cd "$(dirname "$0")/.."
 
-archive=target/staticlib/libhost.a
-if [ ! -f "$archive" ] || [ -n "$(find crates crates.txt -newer "$archive" -type f -print -quit)" ]; then
-    ${RT:-rt} staticlib host
+archive=crates/host/out/libhost.a
+if [ ! -f "$archive" ] || [ -n "$(find crates crates.txt -name out -prune -o -newer "$archive" -type f -print -quit)" ]; then
+    (cd crates/host && ${RT:-rt} lib)
 fi
 
 work=$(mktemp -d)
