@@ -6,7 +6,8 @@ usage: python3 tools/snake_names.py [--list]      at the top of the repository
 It reads every crate's .antt files for the names that are declared there (definitions, lemmas, fields, constructors), and writes an
 underscore for each dash of such a name wherever it stands: in .antt files, in the clauses of .rt files, in backquotes in Markdown pages.
 Names of the library, and those that the toolchain makes for goals, steps and places, are not declared in the repository and stay. So do
-comments, strings and the code of functions. It refuses where two names would fall together in one file. A second run changes nothing.
+comments, strings and the code of functions. It prints a line where a name falls together with another word of its file, for a reader to
+look at. A second run changes nothing.
 """
 import os
 import re

@@ -64,7 +64,7 @@ fn request(heap: Global, name: &str, mut words: SplitWhitespace<'_>) -> anyhow::
 }
 
 /// The calls of a script. A line that is no call is named in the error.
-pub fn requests(heap: Global, script: &str) -> anyhow::Result<Vec<Request>> {
+pub(crate) fn requests(heap: Global, script: &str) -> anyhow::Result<Vec<Request>> {
     let mut requests = Vec::new(heap);
     for (index, line) in script.lines().enumerate() {
         let mut words = line.split_whitespace();
