@@ -1,5 +1,5 @@
 -- What a caller's buffer holds after a call.
-use Rattle.std.specs.Prelude.{◌≡◌, ℕ, ◌<◌, ◌≤◌, min, Bool, List, ◌++◌, length, take, drop, Ok, Err, Result, nat_lt}
+use Rattle.std.specs.Prelude.{◌≡◌, ℕ, ◌<◌, ◌≤◌, cond, List, ◌++◌, length, take, drop, Ok, Err, Result, nat_lt}
 use Rattle.answer.specs.declared.fault.Layer.{Layer}
 use Rattle.answer.specs.declared.fault.Layer.TheVariants.{Buffer}
 use Rattle.answer.specs.declared.collector.BufferFault.{BufferFault}
@@ -19,9 +19,17 @@ pub data Filled {A : Type 0} (list before : List A) : Result ℕ BufferFault →
   whole : length list ≤ length before → Filled list before (Ok (length list)) (list ++ drop (length list) before)
   short : length before < length list → Filled list before (Err Full) (take (length before) list)
 
+-- of so many entries a buffer with so much room takes all, or there is the refusal
+abbrev pub fitted : ℕ → ℕ → Result ℕ BufferFault
+fitted count room = cond (nat_lt room count) (Err Full) (Ok count)
+
 -- a list was offered to a buffer, entry by entry: its first entries stand in the buffer as far as there is a place for them, the entries behind
--- stay, and some found no place just if the list is longer
-pub record Collecting {A : Type 0} (before list entries : List A) (count : ℕ) (full : Bool) : Type 0 where
+-- stay, and its length is told, or the refusal if it is longer than the buffer
+pub record Collecting {A : Type 0} (before list entries : List A) (written : Result ℕ BufferFault) : Type 0 where
   pub entries_are : entries ≡ take (length before) list ++ drop (length list) before
-  pub count_is : count ≡ min (length list) (length before)
-  pub full_is : full ≡ nat_lt (length before) (length list)
+  pub written_is : written ≡ fitted (length list) (length before)
+
+-- a list is offered to a buffer, after what was offered to it before
+abbrev pub Offered : {A : Type 0} → List A → List A → Result ℕ BufferFault → List A → Result ℕ BufferFault → Type 0
+Offered list entries written next told =
+    (before earlier : List _) → Collecting before earlier entries written → Collecting before (earlier ++ list) next told

@@ -5,7 +5,7 @@ use Rattle.answer.specs.declared.fault.Layer.TheVariants.{Pair, Verdict}
 use Rattle.answer.specs.declared.verdict.Verdict.{Verdict as Judgement}
 use Rattle.answer.specs.declared.verdict.Verdict.TheVariants.{Race, NoRace}
 use Rattle.answer.specs.declared.verdict.WitnessFault.{WitnessFault}
-use Rattle.answer.specs.declared.verdict.WitnessFault.TheVariants.{Pair as ByPair, NoRace as None-to-show, Buffer as ByBuffer}
+use Rattle.answer.specs.declared.verdict.WitnessFault.TheVariants.{Pair as ByPair, NoRace as NothingShown, Buffer as ByBuffer}
 use Rattle.answer.specs.declared.verdict.PartnersFault.{PartnersFault}
 use Rattle.answer.specs.declared.verdict.PartnersFault.TheVariants.{NoEvent, Buffer as BufferOf}
 use Rattle.answer.specs.Faults.{pair_number, pair_layer}
@@ -19,13 +19,13 @@ verdict_number NoRace = 0
 -- the number of a refusal of a witness: those of the pair, 11 where it is no race, 12 where the buffer is too small
 abbrev pub witness_number : WitnessFault → ℕ
 witness_number (ByPair f) = pair_number f
-witness_number None-to-show = 11
+witness_number NothingShown = 11
 witness_number (ByBuffer f) = buffer_number f
 
 -- the layer that refuses it
 abbrev pub witness_layer : WitnessFault → Layer
 witness_layer (ByPair f) = pair_layer f
-witness_layer None-to-show = Verdict
+witness_layer NothingShown = Verdict
 witness_layer (ByBuffer f) = buffer_layer f
 
 -- the number of a refusal of Partners: 8 where there is no such position, 12 where the buffer is too small

@@ -1,9 +1,9 @@
 //! Fills a caller's buffer from its start.
-ghost use Rattle.std.specs.Prelude.{◌≡◌, ◌+◌, ◌≤◌, true, false, length, if◌then◌else◌, Ok, Err, nat_lt, slice_set};
-ghost use Rattle.answer.specs.declared.collector.BufferFault.TheVariants.{Full};
+ghost use Rattle.std.specs.Prelude.{[], ◌∷◌, ◌≡◌, ℕ, ◌≤◌, length, Ok};
 ghost use Rattle.answer.specs.Buffers.{buffer_number, buffer_layer};
 
-use crate::fault::Layer;
+use crate::fault::{Layer, Layered};
+use trace::fault::Fault;
 
 /// Why a buffer takes no entry.
 #[derive(Clone, Copy, PartialEq, Eq, Debug)]
@@ -12,73 +12,68 @@ pub enum BufferFault {
     Full,
 }
 
-impl BufferFault {
-    /// The number of the refusal.
-    pub fn number(self) -> u8
-        ensures { result ≡ buffer_number self }
-    {
+impl Fault for BufferFault {
+    ghost number = { buffer_number };
+
+    fn number(self) -> u8 {
         match self {
             BufferFault::Full => 12,
         }
     }
+}
 
-    /// The layer that refuses.
-    pub fn layer(self) -> Layer
-        ensures { result ≡ buffer_layer self }
-    {
+impl Layered for BufferFault {
+    ghost layer = { buffer_layer };
+
+    fn layer(self) -> Layer {
         Layer::Buffer
     }
 }
 
-/// The first entries of the buffer are written, as many as `count` says; the others are as the caller left them. Entries that found no place
-/// are let go, and `full` says that there were such.
+/// The first entries of the buffer are written, as many as `written` says; the others are as the caller left them. Where an entry found no
+/// place, `written` is the refusal, and all places are written; it and all further entries are let go.
+// a lent buffer, and how many are written, and no vector: the caller gives the memory
 #[derive(Drop)]
 pub struct Collector<'a, T> {
     entries: &'a mut [T],
-    count: usize,
-    full: bool,
-    ghost within: { count ≤ length entries.now },
+    written: Result<usize, BufferFault>,
+    ghost within: { (n : ℕ) → written ≡ Ok n → n ≤ length entries.now },
 }
 
 impl<'a, T: Copy> Collector<'a, T> {
+    ghost use Rattle.answer.specs.Collectors.{Adds};
+
     /// A collector that has written nothing.
     pub fn over(entries: &'a mut [T]) -> Collector<'a, T>
-        ensures count { result.count ≡ 0 }
-        ensures full { result.full ≡ false }
+        ensures written { result.written ≡ Ok 0 }
         ensures entries { result.entries.now ≡ entries.old }
         ensures lender { result.entries.ghost_name ≡ entries.entry.ghost_name }
     {
         Collector {
             entries,
-            count: 0,
-            full: false,
+            written: Ok(0),
         }
     }
 
     /// Writes one entry more, if the buffer has a place for it.
     pub fn push(&mut self, entry: T)
-        ensures count { let room = nat_lt self.old.count (length self.old.entries.now) in self.new.count ≡ (if room then self.old.count + 1 else self.old.count) }
-        ensures full { let room = nat_lt self.old.count (length self.old.entries.now) in self.new.full ≡ (if room then self.old.full else true) }
-        ensures entries { let room = nat_lt self.old.count (length self.old.entries.now) in self.new.entries.now ≡ (if room then slice_set self.old.entries.now self.old.count entry else self.old.entries.now) }
-        ensures lender { self.new.entries.ghost_name ≡ self.old.entries.ghost_name }
+        ensures { Adds (entry ∷ []) self.old self.new }
     {
-        let at = self.count;
+        let Ok(at) = self.written else {
+            return;
+        };
         if at >= self.entries.len() {
-            self.full = true;
+            self.written = Err(BufferFault::Full);
             return;
         }
         self.entries[at] = entry;
-        self.count = at + 1;
+        self.written = Ok(at + 1);
     }
 
     /// How many entries there were, or the refusal where some found no place.
     pub fn answer(&self) -> Result<usize, BufferFault>
-        ensures { result ≡ (if self.now.full then Err Full else Ok self.now.count) }
+        ensures { result ≡ self.now.written }
     {
-        if self.full {
-            Err(BufferFault::Full)
-        } else {
-            Ok(self.count)
-        }
+        self.written
     }
 }

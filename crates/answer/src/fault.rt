@@ -4,6 +4,7 @@ ghost use Rattle.answer.specs.declared.fault.EntryFault.TheVariants.{Record, Tra
 ghost use Rattle.answer.specs.Faults.{entry_number, entry_layer, pair_number, pair_layer};
 
 use reel::ReelFault;
+use trace::fault::Fault;
 use trace::locks::TraceFault;
 use trace::record::RecordFault;
 
@@ -24,6 +25,17 @@ pub enum Layer {
     Buffer,
 }
 
+/// A refusal that one layer gives.
+pub trait Layered: Fault {
+    ghost use Rattle.answer.specs.declared.fault.Layer.{Layer};
+
+    ghost layer: { Self → Layer };
+
+    /// The layer that refuses.
+    fn layer(self) -> Layer
+        ensures { result ≡ layer self };
+}
+
 /// Why a record is not taken: the fault of the layer that refuses it, whole.
 #[derive(Clone, Copy, PartialEq, Debug)]
 pub enum EntryFault {
@@ -32,22 +44,22 @@ pub enum EntryFault {
     Reel(ReelFault),
 }
 
-impl EntryFault {
-    /// The number of the refusal.
-    pub fn number(self) -> u8
-        ensures { result ≡ entry_number self }
-    {
+impl Fault for EntryFault {
+    ghost number = { entry_number };
+
+    fn number(self) -> u8 {
         match self {
             EntryFault::Record(fault) => fault.number(),
             EntryFault::Trace(fault) => fault.number(),
             EntryFault::Reel(fault) => fault.number(),
         }
     }
+}
 
-    /// The layer that refuses.
-    pub fn layer(self) -> Layer
-        ensures { result ≡ entry_layer self }
-    {
+impl Layered for EntryFault {
+    ghost layer = { entry_layer };
+
+    fn layer(self) -> Layer {
         match self {
             EntryFault::Record(_) => Layer::Record,
             EntryFault::Trace(_) => Layer::Trace,
@@ -91,22 +103,22 @@ pub enum PairFault {
     NoConflict,
 }
 
-impl PairFault {
-    /// The number of the refusal.
-    pub fn number(self) -> u8
-        ensures { result ≡ pair_number self }
-    {
+impl Fault for PairFault {
+    ghost number = { pair_number };
+
+    fn number(self) -> u8 {
         match self {
             PairFault::NoEvent => 8,
             PairFault::Order => 9,
             PairFault::NoConflict => 10,
         }
     }
+}
 
-    /// The layer that refuses.
-    pub fn layer(self) -> Layer
-        ensures { result ≡ pair_layer self }
-    {
+impl Layered for PairFault {
+    ghost layer = { pair_layer };
+
+    fn layer(self) -> Layer {
         Layer::Pair
     }
 }

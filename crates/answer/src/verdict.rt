@@ -5,7 +5,8 @@ ghost use Rattle.answer.specs.declared.verdict.PartnersFault.TheVariants.{Buffer
 ghost use Rattle.answer.specs.Verdicts.{verdict_number, witness_number, witness_layer, partners_number, partners_layer};
 
 use crate::collector::BufferFault;
-use crate::fault::{Layer, PairFault};
+use crate::fault::{Layer, Layered, PairFault};
+use trace::fault::Fault;
 
 /// Whether two accesses race.
 #[derive(Clone, Copy, PartialEq, Eq, Debug)]
@@ -74,22 +75,22 @@ pub enum WitnessFault {
     Buffer(BufferFault),
 }
 
-impl WitnessFault {
-    /// The number of the refusal.
-    pub fn number(self) -> u8
-        ensures { result ≡ witness_number self }
-    {
+impl Fault for WitnessFault {
+    ghost number = { witness_number };
+
+    fn number(self) -> u8 {
         match self {
             WitnessFault::Pair(fault) => fault.number(),
             WitnessFault::NoRace => 11,
             WitnessFault::Buffer(fault) => fault.number(),
         }
     }
+}
 
-    /// The layer that refuses.
-    pub fn layer(self) -> Layer
-        ensures { result ≡ witness_layer self }
-    {
+impl Layered for WitnessFault {
+    ghost layer = { witness_layer };
+
+    fn layer(self) -> Layer {
         match self {
             WitnessFault::Pair(fault) => fault.layer(),
             WitnessFault::NoRace => Layer::Verdict,
@@ -123,21 +124,21 @@ pub enum PartnersFault {
     Buffer(BufferFault),
 }
 
-impl PartnersFault {
-    /// The number of the refusal.
-    pub fn number(self) -> u8
-        ensures { result ≡ partners_number self }
-    {
+impl Fault for PartnersFault {
+    ghost number = { partners_number };
+
+    fn number(self) -> u8 {
         match self {
             PartnersFault::NoEvent => 8,
             PartnersFault::Buffer(fault) => fault.number(),
         }
     }
+}
 
-    /// The layer that refuses.
-    pub fn layer(self) -> Layer
-        ensures { result ≡ partners_layer self }
-    {
+impl Layered for PartnersFault {
+    ghost layer = { partners_layer };
+
+    fn layer(self) -> Layer {
         match self {
             PartnersFault::NoEvent => Layer::Pair,
             PartnersFault::Buffer(fault) => fault.layer(),

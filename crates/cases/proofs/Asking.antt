@@ -11,13 +11,13 @@ use Rattle.trace.proofs.Exact.{exact, realized}
 use Rattle.trace.proofs.Rules.{sync_laws, happens_before_laws, schedulable_laws}
 use Rattle.trace.proofs.Closures.{closure_unique}
 use Rattle.answer.specs.declared.verdict.Verdict.TheVariants.{Race, NoRace}
-use Rattle.answer.specs.declared.verdict.WitnessFault.TheVariants.{NoRace as None-to-show}
+use Rattle.answer.specs.declared.verdict.WitnessFault.TheVariants.{NoRace as NothingShown}
 use Rattle.session.specs.Questions.{pair_refusal, Outside}
 use Rattle.session.specs.Questions.Answers.{answered}
 use Rattle.answer.specs.Buffers.Filled.{whole}
 use Rattle.session.specs.Races.{Races, Witness, Witnessed}
 use Rattle.session.specs.Races.Judged.{race, no_race}
-use Rattle.session.specs.Races.Witnessed.{no_race as no-witness, written}
+use Rattle.session.specs.Races.Witnessed.{no_race as no_witness, written}
 use Rattle.session.proofs.Asked.{asked, scheduled_by}
 use Rattle.session.proofs.Racing.{races_by}
 use Rattle.cases.specs.Cases.{Judges, FindsUnordered, FindsSchedulable}
@@ -63,14 +63,14 @@ module _ (t : List Event) (p q : ℕ) (admitted : Admits t) (none : pair_refusal
     pub judges_none : with_earlier t ws p ≡ true → Judges t p q NoRace
     judges_none i = no_race none (races_not i)
 
-    pub witness_refused : with_earlier t ws p ≡ true → (buffer : List ℕ) → Witnessed t p q (Witness t p q) buffer (Err None-to-show) buffer
-    witness_refused i buffer = no-witness none (races_not i)
+    pub witness_refused : with_earlier t ws p ≡ true → (buffer : List ℕ) → Witnessed t p q (Witness t p q) buffer (Err NothingShown) buffer
+    witness_refused i buffer = no_witness none (races_not i)
 
     pub witness_is : Witness t p q (listed (with_earlier t ws) (length t))
     witness_is = (with_earlier t ws, sync_closure, refl)
 
     pub refuses_witness : with_earlier t ws p ≡ true → WitnessRefuses t p q 11
-    refuses_witness i = (None-to-show, λ buffer. no-witness none (races_not i), refl)
+    refuses_witness i = (NothingShown, λ buffer. no_witness none (races_not i), refl)
 
     pub writes : with_earlier t ws p ≡ false → Writes t p q (listed (with_earlier t ws) (length t))
     writes out buffer enough = written none (races out) (with_earlier t ws, sync_closure, refl) (whole enough)

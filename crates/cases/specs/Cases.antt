@@ -11,7 +11,7 @@ use Rattle.session.specs.Entries.{Outcome, enter, load}
 use Rattle.answer.specs.declared.verdict.Verdict.{Verdict}
 use Rattle.answer.specs.declared.verdict.Verdict.TheVariants.{Race, NoRace}
 use Rattle.answer.specs.declared.verdict.RacePair.{RacePair}
-use Rattle.answer.specs.declared.verdict.WitnessFault.TheVariants.{NoRace as None-to-show}
+use Rattle.answer.specs.declared.verdict.WitnessFault.TheVariants.{NoRace as NothingShown}
 use Rattle.answer.specs.declared.collector.BufferFault.TheVariants.{Full}
 use Rattle.session.specs.Questions.{pair_refusal, Answers, Unordered, Schedulable, Vetted}
 use Rattle.answer.specs.Buffers.{buffer_number, Filled}
@@ -46,7 +46,7 @@ SectionsOrdered = FindsUnordered sections_between 0 5 false × FindsSchedulable 
 -- two writes under one lock do not race, so a witness is refused with 11, and the buffer stays
 abbrev pub LockedNoRace : Type 0
 LockedNoRace =
-    Judges writes_locked 1 4 NoRace × ((buffer : List ℕ) → Witnessed writes_locked 1 4 (Witness writes_locked 1 4) buffer (Err None-to-show) buffer) × (witness_number None-to-show ≡ 11)
+    Judges writes_locked 1 4 NoRace × ((buffer : List ℕ) → Witnessed writes_locked 1 4 (Witness writes_locked 1 4) buffer (Err NothingShown) buffer) × (witness_number NothingShown ≡ 11)
 
 -- the read keeps the writes around it from racing; happens-before does not see that, and schedulable happens-before does
 abbrev pub ReadNoRace : Type 0

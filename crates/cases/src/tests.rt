@@ -1,5 +1,5 @@
 //! The worked cases, asked of sessions over both reels.
-use answer::fault::{EntryRefusal, Layer, PairFault};
+use answer::fault::{EntryRefusal, Layer, Layered};
 use answer::verdict::{RacePair, Verdict};
 use reel::Reel;
 use reel::board::BoardReel;
@@ -7,35 +7,31 @@ use reel::host::HostReel;
 use session::session::Session;
 use std::process::Abort;
 use std::test::Fail;
+use trace::fault::Fault;
+use trace::kind::Kind;
 
 mod reports;
 mod sessions;
 
-const READ: u8 = 1;
-
-const WRITE: u8 = 2;
-
-const ACQUIRE: u8 = 3;
-
-const RELEASE: u8 = 4;
-
-/// The record of a kind, a thread and a subject, any of which may be past its limit.
-fn record(kind: u8, thread: u8, subject: u16) -> [u8; 8] {
+/// The record of a kind, a thread and a subject, which may be past their limits.
+// the tests of session have this, `refused` and `number` too: what is under cfg(test) is not seen from another crate
+fn record(kind: Kind, thread: u8, subject: u16) -> [u8; 8] {
     let [low, high] = subject.to_le_bytes();
-    [kind, thread, low, high, 0, 0, 0, 0]
+    [u8::from(kind), thread, low, high, 0, 0, 0, 0]
 }
 
 /// The record of an event that is written as its thread, a letter and its subject: w writes a variable, r reads one, a acquires a lock and z
 /// releases one.
+// no `FromStr`: what is made is an array of bytes, which is no type of this crate, and a type for it would be no plainer
 fn record_of(event: &str) -> Result<[u8; 8], Fail> {
     let [thread, letter, subject] = event.as_bytes() else {
         return Err(Fail::new("an event is three characters"));
     };
     let kind = match *letter {
-        b'r' => READ,
-        b'w' => WRITE,
-        b'a' => ACQUIRE,
-        b'z' => RELEASE,
+        b'r' => Kind::Read,
+        b'w' => Kind::Write,
+        b'a' => Kind::Acquire,
+        b'z' => Kind::Release,
         _ => return Err(Fail::new("no such letter")),
     };
     let subject = subject.wrapping_sub(b'0');
@@ -53,18 +49,13 @@ fn session_over<R: Reel + Drop>(reel: R, events: &str) -> Result<Session<R>, Fai
 
 /// The number, the layer and the index of a refusal.
 fn refused<T: Drop>(answer: Result<T, EntryRefusal>) -> Option<(u8, Layer, usize)> {
-    match answer {
-        Ok(_) => None,
-        Err(refusal) => Some((refusal.fault.number(), refusal.fault.layer(), refusal.index)),
-    }
+    let refusal = answer.err()?;
+    Some((refusal.fault.number(), refusal.fault.layer(), refusal.index))
 }
 
-/// The number of the refusal of a verdict.
-fn number(answer: Result<Verdict, PairFault>) -> Option<u8> {
-    match answer {
-        Ok(_) => None,
-        Err(fault) => Some(fault.number()),
-    }
+/// The number of a refusal.
+fn number<T: Drop, F: Fault>(answer: Result<T, F>) -> Option<u8> {
+    answer.err().map(|fault| fault.number())
 }
 
 fn pair(first: u16, second: u16) -> RacePair {
@@ -104,10 +95,7 @@ fn asks_writes_locked<R: Reel + Drop>(rt: &impl Abort, reel: R) -> Result<(), Fa
     let session = session_over(reel, "0a0 0w0 0z0 1a0 1w0 1z0")?;
     assert_eq!(rt; session.judge(1, 4), Ok(Verdict::NoRace));
     let mut buffer = [9; 3];
-    let Err(fault) = session.witness(1, 4, &mut buffer) else {
-        return Err(Fail::new("a witness"));
-    };
-    assert_eq!(rt; fault.number(), 11);
+    assert_eq!(rt; number(session.witness(1, 4, &mut buffer)), Some(11));
     assert_eq!(rt; buffer, [9, 9, 9]);
     Ok(())
 }
@@ -152,10 +140,7 @@ fn asks_three_accesses<R: Reel + Drop>(rt: &impl Abort, reel: R) -> Result<(), F
     assert_eq!(rt; session.sweep(&mut pairs).ok(), Some(3));
     assert_eq!(rt; pairs, [pair(0, 1), pair(0, 2), pair(1, 2), pair(9, 9)]);
     let mut two = [pair(9, 9); 2];
-    let Err(fault) = session.sweep(&mut two) else {
-        return Err(Fail::new("three pairs in a buffer of two"));
-    };
-    assert_eq!(rt; fault.number(), 12);
+    assert_eq!(rt; number(session.sweep(&mut two)), Some(12));
     assert_eq!(rt; two, [pair(0, 1), pair(0, 2)]);
     assert_eq!(rt; number(session.judge(0, 3)), Some(8));
     assert_eq!(rt; number(session.judge(2, 2)), Some(9));
@@ -188,14 +173,14 @@ fn enters_at_the_limits<R: Reel + Drop>(rt: &impl Abort, reel: R) -> Result<(), 
     assert_eq!(rt; refused(session.enter(&record_of("1z0")?)), locked);
     let held = Some((5, Layer::Trace, 0));
     assert_eq!(rt; refused(session.enter(&record_of("0a0")?)), held);
-    assert_eq!(rt; refused(session.enter(&record(READ, 0, 1023))), None);
-    assert_eq!(rt; refused(session.enter(&record(WRITE, 0, 1023))), None);
-    assert_eq!(rt; refused(session.enter(&record(ACQUIRE, 0, 63))), None);
+    assert_eq!(rt; refused(session.enter(&record(Kind::Read, 0, 1023))), None);
+    assert_eq!(rt; refused(session.enter(&record(Kind::Write, 0, 1023))), None);
+    assert_eq!(rt; refused(session.enter(&record(Kind::Acquire, 0, 63))), None);
     let past = Some((4, Layer::Record, 0));
-    assert_eq!(rt; refused(session.enter(&record(READ, 0, 1024))), past);
-    assert_eq!(rt; refused(session.enter(&record(WRITE, 0, 1024))), past);
-    assert_eq!(rt; refused(session.enter(&record(ACQUIRE, 0, 64))), past);
-    assert_eq!(rt; refused(session.enter(&record(RELEASE, 0, 64))), past);
+    assert_eq!(rt; refused(session.enter(&record(Kind::Read, 0, 1024))), past);
+    assert_eq!(rt; refused(session.enter(&record(Kind::Write, 0, 1024))), past);
+    assert_eq!(rt; refused(session.enter(&record(Kind::Acquire, 0, 64))), past);
+    assert_eq!(rt; refused(session.enter(&record(Kind::Release, 0, 64))), past);
     assert_eq!(rt; session.count(), 4);
     Ok(())
 }
@@ -226,12 +211,12 @@ fn lengths_of_dumps(rt: HostRuntime) {
 fn last_room_of_the_board_reel(rt: HostRuntime) -> Result<(), Fail> {
     let mut session = Session::open(BoardReel::new());
     for _ in 0..1023 {
-        session.enter(&record(READ, 0, 0))?;
+        session.enter(&record(Kind::Read, 0, 0))?;
     }
-    assert_eq!(rt; refused(session.enter(&record(READ, 0, 0))), None);
+    assert_eq!(rt; refused(session.enter(&record(Kind::Read, 0, 0))), None);
     assert_eq!(rt; session.count(), 1024);
     let full = Some((7, Layer::Reel, 0));
-    assert_eq!(rt; refused(session.enter(&record(READ, 0, 0))), full);
+    assert_eq!(rt; refused(session.enter(&record(Kind::Read, 0, 0))), full);
     assert_eq!(rt; session.count(), 1024);
     Ok(())
 }

@@ -1,29 +1,28 @@
 //! All small traces.
 use crate::compare::compare;
-use crate::shape::{Shape, add_all_events};
-use crate::steps::{Step, extend, is_admitted};
+use crate::shape::Shape;
+use crate::steps::{Step, Trace, is_admitted};
 use crate::tally::Tally;
 use std::alloc::Global;
 use trace::event::Event;
 
 /// The first thread that no event of the trace has, and none before it.
 fn next_thread(trace: &[Step]) -> u8 {
-    let mut next = 0;
-    for step in trace {
-        next = next.max(step.event.thread.saturating_add(1));
-    }
-    next
+    trace
+        .iter()
+        .map(|step| step.event.thread.saturating_add(1))
+        .max()
+        .unwrap_or(0)
 }
 
 /// The first subject of the event's sort, a variable or a lock, that no event of the trace has.
 fn next_subject(trace: &[Step], event: &Event) -> u16 {
-    let mut next = 0;
-    for step in trace {
-        if step.event.kind.is_access() == event.kind.is_access() {
-            next = next.max(step.event.subject.saturating_add(1));
-        }
-    }
-    next
+    trace
+        .iter()
+        .filter(|step| step.event.kind.is_access() == event.kind.is_access())
+        .map(|step| step.event.subject.saturating_add(1))
+        .max()
+        .unwrap_or(0)
 }
 
 /// Whether the event is tried next: the trace check admits it, and threads, variables and locks come up in the order of their numbers, since
@@ -34,36 +33,43 @@ fn is_tried(trace: &[Step], event: &Event) -> bool {
         && event.subject <= next_subject(trace, event)
 }
 
-/// Compares on every trace that goes on from the given one by at most `left` events.
-fn compare_longer(
+/// A walk through all traces of some events, each after the one that it goes on from, and what was tried on its way.
+#[derive(Drop)]
+struct Walk<'a> {
     heap: Global,
-    events: &[Event],
-    trace: &mut Vec<Step>,
-    left: usize,
-    tally: &mut Tally,
-) -> anyhow::Result<()> {
-    if left == 0 {
-        return Ok(());
-    }
-    for event in events {
-        if is_tried(trace.as_slice(), event) {
-            extend(trace, *event)?;
-            compare(heap, trace.as_slice(), tally)?;
-            compare_longer(heap, events, trace, left - 1, tally)?;
-            let _ = trace.pop();
+    events: &'a [Event],
+    /// The trace that it is at.
+    trace: Trace,
+    tally: Tally,
+}
+
+impl Walk<'_> {
+    /// Compares on every trace that goes on from where the walk is by at most `left` events.
+    fn go_on(&mut self, left: usize) -> anyhow::Result<()> {
+        if left == 0 {
+            return Ok(());
         }
+        for event in self.events {
+            if is_tried(self.trace.steps(), event) {
+                self.trace.extend(*event)?;
+                compare(self.heap, &self.trace, &mut self.tally)?;
+                self.go_on(left - 1)?;
+                self.trace.shorten();
+            }
+        }
+        Ok(())
     }
-    Ok(())
 }
 
 /// Compares on every trace of the shape with at most so many events.
-pub(crate) fn compare_all(
-    heap: Global,
-    shape: &Shape,
-    most: usize,
-    tally: &mut Tally,
-) -> anyhow::Result<()> {
-    let mut events = Vec::new(heap);
-    add_all_events(shape, &mut events)?;
-    compare_longer(heap, events.as_slice(), &mut Vec::new(heap), most, tally)
+pub(crate) fn compare_all(heap: Global, shape: Shape, most: usize) -> anyhow::Result<Tally> {
+    let events = shape.events(heap)?;
+    let mut walk = Walk {
+        heap,
+        events: events.as_slice(),
+        trace: Trace::new(heap),
+        tally: Tally::default(),
+    };
+    walk.go_on(most)?;
+    Ok(walk.tally)
 }

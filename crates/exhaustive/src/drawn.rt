@@ -3,21 +3,24 @@ ghost use Rattle.std.specs.Prelude.{◌<◌};
 
 use crate::compare::compare;
 use crate::shape::{Shape, event};
-use crate::steps::{Step, extend, holder_of};
+use crate::steps::{Trace, holder_of};
 use crate::tally::Tally;
 use std::alloc::Global;
 use trace::event::Event;
 use trace::kind::Kind;
 
-/// A linear congruential generator, and the thread that is at work.
+// Not a generator of the crate rand, which would be no plainer: what is printed stands on just these numbers.
+/// A linear congruential generator, the shape of what it draws, and the thread that is at work.
 #[derive(Drop)]
 struct Generator {
     state: u64,
+    shape: Shape,
     thread: u8,
 }
 
 impl Generator {
     /// A number below the bound; 0 where there is none.
+    // no Option: every shape that is drawn from has some of each, and an Option would need an answer where it has not
     fn below(&mut self, bound: u8) -> u8
         ensures { 0 < bound → result < bound }
     {
@@ -28,76 +31,68 @@ impl Generator {
         if bound == 0 {
             return 0;
         }
+        // a cast, since a remainder by a u8 is one, and a `try_from` would need an answer for one that is not
         ((self.state >> 33) % u64::from(bound)) as u8
     }
 
     /// The thread that is at work now: a new one in a third of the cases.
-    fn thread(&mut self, shape: &Shape) -> u8 {
+    fn thread(&mut self) -> u8 {
         if self.below(3) == 0 {
-            self.thread = self.below(shape.threads);
+            self.thread = self.below(self.shape.threads);
         }
         self.thread
     }
 
     /// An access to some variable.
-    fn access(&mut self, shape: &Shape) -> anyhow::Result<Event> {
+    fn access(&mut self) -> anyhow::Result<Event> {
         let kind = if self.below(2) == 0 {
             Kind::Read
         } else {
             Kind::Write
         };
-        let thread = self.thread(shape);
-        let variable = self.below(shape.variables);
+        let thread = self.thread();
+        let variable = self.below(self.shape.variables);
         event(kind, thread, variable)
     }
 
     /// The release of some lock by its holder, or where it is free, an acquire.
-    fn turn(&mut self, trace: &[Step], shape: &Shape) -> anyhow::Result<Event> {
-        let lock = self.below(shape.locks);
-        match holder_of(trace, u16::from(lock)) {
+    fn turn(&mut self, trace: &Trace) -> anyhow::Result<Event> {
+        let lock = self.below(self.shape.locks);
+        match holder_of(trace.steps(), u16::from(lock)) {
             Some(holder) => event(Kind::Release, holder, lock),
-            None => {
-                let thread = self.thread(shape);
-                event(Kind::Acquire, thread, lock)
-            }
+            None => event(Kind::Acquire, self.thread(), lock),
         }
     }
 
     /// An event that the trace check admits after the trace: five in eight are accesses.
-    fn next_event(&mut self, trace: &[Step], shape: &Shape) -> anyhow::Result<Event> {
+    fn next_event(&mut self, trace: &Trace) -> anyhow::Result<Event> {
         if self.below(8) < 5 {
-            self.access(shape)
+            self.access()
         } else {
-            self.turn(trace, shape)
+            self.turn(trace)
         }
     }
 
-    /// Lets so many events come next in the trace.
-    fn lengthen(&mut self, trace: &mut Vec<Step>, shape: &Shape, count: u8) -> anyhow::Result<()> {
-        for _ in 0..count {
-            let event = self.next_event(trace.as_slice(), shape)?;
-            extend(trace, event)?;
+    /// A trace of 8 to 11 events.
+    fn trace(&mut self, heap: Global) -> anyhow::Result<Trace> {
+        let mut trace = Trace::new(heap);
+        for _ in 0..8 + self.below(4) {
+            trace.extend(self.next_event(&trace)?)?;
         }
-        Ok(())
+        Ok(trace)
     }
 }
 
 /// Compares on so many traces of the shape, each of 8 to 11 events.
-pub(crate) fn compare_drawn(
-    heap: Global,
-    shape: &Shape,
-    traces: u64,
-    tally: &mut Tally,
-) -> anyhow::Result<()> {
+pub(crate) fn compare_drawn(heap: Global, shape: Shape, traces: u64) -> anyhow::Result<Tally> {
     let mut generator = Generator {
         state: 1,
+        shape,
         thread: 0,
     };
+    let mut tally = Tally::default();
     for _ in 0..traces {
-        let mut trace = Vec::new(heap);
-        let count = 8 + generator.below(4);
-        generator.lengthen(&mut trace, shape, count)?;
-        compare(heap, trace.as_slice(), tally)?;
+        compare(heap, &generator.trace(heap)?, &mut tally)?;
     }
-    Ok(())
+    Ok(tally)
 }

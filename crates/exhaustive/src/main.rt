@@ -2,16 +2,13 @@
 //! fixed generator draws; prints what was tried, and how many answers differ.
 #![tactic(auto)]
 
-use anyhow::anyhow;
+use anyhow::bail;
 use plan::{Choice, Plan};
-use shape::Shape;
 use tally::Tally;
-use text::print_trace;
 
 mod all;
 mod compare;
 mod drawn;
-mod places;
 mod plan;
 mod relations;
 mod search;
@@ -20,66 +17,31 @@ mod steps;
 mod tally;
 mod text;
 
-/// Carries out a plan, prints what was tried, and adds it.
-fn carry_out(rt: &HostRuntime, plan: &Plan, total: &mut Tally) -> anyhow::Result<()> {
-    let tally = plan.carry_out(rt.alloc())?;
-    println!(rt; "{plan}: {tally}")?;
-    total.add(&tally)?;
-    Ok(())
-}
-
-/// All traces of so many threads and variables and one lock, with at most so many events.
-fn all_of(threads: u8, variables: u8, most: usize) -> Plan {
-    Plan {
-        shape: Shape {
-            threads,
-            variables,
-            locks: 1,
-        },
-        choice: Choice::All { most },
-    }
-}
-
-/// So many drawn traces of so many threads and variables and two locks.
-fn drawn_of(threads: u8, variables: u8, traces: u64) -> Plan {
-    Plan {
-        shape: Shape {
-            threads,
-            variables,
-            locks: 2,
-        },
-        choice: Choice::Drawn { traces },
-    }
-}
-
-/// Carries out every plan.
-fn carry_out_all(rt: &HostRuntime, total: &mut Tally) -> anyhow::Result<()> {
+/// Carries out every plan, prints of each what was tried, and adds it all.
+fn carry_out_all(rt: &HostRuntime) -> anyhow::Result<Tally> {
     let plans = [
-        all_of(2, 1, 7),
-        all_of(2, 2, 5),
-        all_of(3, 1, 6),
-        all_of(3, 2, 5),
-        drawn_of(3, 2, 5000),
-        drawn_of(4, 3, 5000),
+        Plan::of(Choice::All { most: 7 }, 2, 1, 1),
+        Plan::of(Choice::All { most: 5 }, 2, 2, 1),
+        Plan::of(Choice::All { most: 6 }, 3, 1, 1),
+        Plan::of(Choice::All { most: 5 }, 3, 2, 1),
+        Plan::of(Choice::Drawn { traces: 5000 }, 3, 2, 2),
+        Plan::of(Choice::Drawn { traces: 5000 }, 4, 3, 2),
     ];
+    let mut total = Tally::default();
     for plan in &plans {
-        carry_out(rt, plan, total)?;
+        let tally = plan.carry_out(rt.alloc())?;
+        println!(rt; "{plan}: {tally}")?;
+        total += tally;
     }
-    Ok(())
-}
-
-fn run(rt: &HostRuntime) -> anyhow::Result<()> {
-    let mut total = Tally::new(rt.alloc());
-    carry_out_all(rt, &mut total)?;
-    println!(rt; "in all: {total}")?;
-    if total.differences > 0 {
-        print!(rt; "the first trace on which answers differ:")?;
-        print_trace(rt, total.differs.as_slice())?;
-        return Err(anyhow!("answers differ"));
-    }
-    Ok(())
+    Ok(total)
 }
 
 fn main(rt: HostRuntime) -> anyhow::Result<()> {
-    run(&rt)
+    let total = carry_out_all(&rt)?;
+    println!(rt; "in all: {total}")?;
+    if let Some(trace) = total.differs {
+        println!(rt; "the first trace on which answers differ:{trace}")?;
+        bail!("answers differ");
+    }
+    Ok(())
 }

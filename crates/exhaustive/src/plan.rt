@@ -22,13 +22,24 @@ pub(crate) struct Plan {
 }
 
 impl Plan {
+    /// Those of the traces with so many threads, variables and locks that the choice names.
+    pub(crate) fn of(choice: Choice, threads: u8, variables: u8, locks: u8) -> Plan {
+        Plan {
+            shape: Shape {
+                threads,
+                variables,
+                locks,
+            },
+            choice,
+        }
+    }
+
     /// Tries the traces of the plan.
     pub(crate) fn carry_out(&self, heap: Global) -> anyhow::Result<Tally> {
-        let mut tally = Tally::new(heap);
+        // A closure for each choice would be no plainer: there are two, each with a number of its own, which is printed too.
         match self.choice {
-            Choice::All { most } => compare_all(heap, &self.shape, most, &mut tally)?,
-            Choice::Drawn { traces } => compare_drawn(heap, &self.shape, traces, &mut tally)?,
+            Choice::All { most } => compare_all(heap, self.shape, most),
+            Choice::Drawn { traces } => compare_drawn(heap, self.shape, traces),
         }
-        Ok(tally)
     }
 }

@@ -1,45 +1,38 @@
 //! Happens-before and schedulable happens-before, by plain reachability.
-use crate::places::Places;
 use crate::steps::Step;
+use std::alloc::{AllocError, Global};
 use trace::kind::Kind;
 
-/// The two relations.
-#[derive(Clone, Copy, PartialEq, Eq)]
-pub(crate) enum Relation {
-    HappensBefore,
-    Schedulable,
+/// Whether happens-before puts the earlier of two events directly before the later one.
+pub(crate) fn happens_before(earlier: &Step, later: &Step) -> bool {
+    let in_thread = earlier.event.thread == later.event.thread;
+    let by_lock = earlier.event.kind == Kind::Release
+        && later.event.kind == Kind::Acquire
+        && earlier.event.subject == later.event.subject;
+    in_thread || by_lock
 }
 
-impl Relation {
-    /// Whether the relation puts the earlier of two events directly before the later one.
-    fn links(self, earlier: &Step, later: &Step) -> bool {
-        let in_thread = earlier.event.thread == later.event.thread;
-        let by_lock = earlier.event.kind == Kind::Release
-            && later.event.kind == Kind::Acquire
-            && earlier.event.subject == later.event.subject;
-        let by_read = self == Relation::Schedulable && later.last_write == Some(earlier.position);
-        in_thread || by_lock || by_read
-    }
+/// Whether schedulable happens-before does: it also puts a write before the reads whose last write it is.
+pub(crate) fn is_scheduled_before(earlier: &Step, later: &Step) -> bool {
+    happens_before(earlier, later) || later.last_write == Some(earlier.position)
+}
 
-    /// Whether the relation puts one of the events in the set directly before the later one.
-    fn links_some(self, trace: &[Step], reached: &Places, later: &Step) -> bool {
-        for earlier in trace {
-            if reached.has(earlier.position) && self.links(earlier, later) {
-                return true;
-            }
+/// Whether a relation puts the event at position p before the one at q, or they are the same; `links` says of two events whether it puts the
+/// first directly before the second. Each link leads on in the trace, so one pass finds all that p leads to.
+pub(crate) fn leads<L: Fn(&Step, &Step) -> bool>(
+    heap: Global,
+    links: L,
+    trace: &[Step],
+    p: u16,
+    q: u16,
+) -> Result<bool, AllocError>
+    requires { L.IsAlwaysCallable links }
+{
+    let mut reached: Vec<Step> = Vec::new(heap);
+    for step in trace {
+        if step.position == p || reached.iter().any(|earlier| links(earlier, step)) {
+            reached.push(*step)?;
         }
-        false
     }
-
-    /// Whether the relation puts the event at position p before the one at q, or they are the same. Each link leads on in the trace, so one
-    /// pass finds all that p leads to.
-    pub(crate) fn leads(self, trace: &[Step], p: u16, q: u16) -> bool {
-        let mut reached = Places::none();
-        for step in trace {
-            if step.position == p || self.links_some(trace, &reached, step) {
-                reached.add(step.position);
-            }
-        }
-        reached.has(q)
-    }
+    Ok(reached.iter().any(|step| step.position == q))
 }

@@ -1,8 +1,12 @@
 //! What traces may name.
 use anyhow::anyhow;
+use std::alloc::Global;
 use trace::event::Event;
 use trace::kind::Kind;
 use trace::record::event_of;
+
+/// Every kind of event.
+const KINDS: [Kind; 4] = [Kind::Read, Kind::Write, Kind::Acquire, Kind::Release];
 
 /// How many threads, variables and locks traces may name.
 #[derive(Clone, Copy)]
@@ -21,30 +25,22 @@ impl Shape {
             self.locks
         }
     }
+
+    /// Every event of the shape, by kind, thread and subject.
+    pub(crate) fn events(&self, heap: Global) -> anyhow::Result<Vec<Event>> {
+        KINDS
+            .iter()
+            .flat_map(|kind| (0..self.threads).map(move |thread| (*kind, thread)))
+            .flat_map(|(kind, thread)| {
+                (0..self.subjects(kind)).map(move |subject| event(kind, thread, subject))
+            })
+            .try_collect(heap)
+    }
 }
 
 /// The event of a thread on a subject.
 pub(crate) fn event(kind: Kind, thread: u8, subject: u8) -> anyhow::Result<Event> {
-    match event_of(kind, thread, u16::from(subject), 0) {
-        Ok(event) => Ok(event),
-        Err(_) => Err(anyhow!("the shape passes the limits of events")),
-    }
-}
-
-/// Adds the events of a kind.
-fn add_events(shape: &Shape, kind: Kind, events: &mut Vec<Event>) -> anyhow::Result<()> {
-    for thread in 0..shape.threads {
-        for subject in 0..shape.subjects(kind) {
-            events.push(event(kind, thread, subject)?)?;
-        }
-    }
-    Ok(())
-}
-
-/// Adds every event of the shape.
-pub(crate) fn add_all_events(shape: &Shape, events: &mut Vec<Event>) -> anyhow::Result<()> {
-    add_events(shape, Kind::Read, events)?;
-    add_events(shape, Kind::Write, events)?;
-    add_events(shape, Kind::Acquire, events)?;
-    add_events(shape, Kind::Release, events)
+    event_of(kind, thread, u16::from(subject), 0).map_err(|_| anyhow!(
+        "the shape passes the limits of events"
+    ))
 }

@@ -1,4 +1,5 @@
 //! Traces and their reorderings, word by word: each question goes through the list that it is about, and none knows of cuts or closures.
+use std::alloc::Global;
 use trace::event::Event;
 use trace::kind::Kind;
 
@@ -14,41 +15,59 @@ pub(crate) struct Step {
     pub(crate) last_write: Option<u16>,
 }
 
-/// How many events of the thread the list has.
-pub(crate) fn count_of(list: &[Step], thread: u8) -> usize {
-    let mut count: usize = 0;
-    for step in list {
-        if step.event.thread == thread {
-            count = count.saturating_add(1);
-        }
+impl Step {
+    /// Whether a read reads after the list what it read in the trace.
+    fn reads_the_same(&self, list: &[Step]) -> bool {
+        self.event.kind != Kind::Read || latest_write(list, self.event.subject) == self.last_write
     }
-    count
+
+    /// Whether an acquire stands after the list in trace order among the acquires of its lock.
+    fn keeps_order(&self, list: &[Step]) -> bool {
+        self.event.kind != Kind::Acquire
+            || !list.iter().any(|earlier| {
+                earlier.event.kind == Kind::Acquire
+                    && earlier.event.subject == self.event.subject
+                    && earlier.position > self.position
+            })
+    }
+
+    /// Whether the event is enabled after the list, which has of each thread the first events: it is not in the list, and all earlier events
+    /// of its thread are.
+    pub(crate) fn is_enabled(&self, list: &[Step]) -> bool {
+        count_of(list, self.event.thread) == self.rank
+    }
+
+    /// Whether the list with the step after it is a sync-preserving correct reordering, where the list is one.
+    pub(crate) fn may_follow(&self, list: &[Step]) -> bool {
+        self.is_enabled(list)
+            && is_admitted(list, &self.event)
+            && self.reads_the_same(list)
+            && self.keeps_order(list)
+    }
+}
+
+/// How many events of the thread the list has.
+fn count_of(list: &[Step], thread: u8) -> usize {
+    list.iter()
+        .filter(|step| step.event.thread == thread)
+        .count()
 }
 
 /// Where the latest write to the variable in the list stands in the trace.
-pub(crate) fn latest_write(list: &[Step], variable: u16) -> Option<u16> {
-    let mut latest = None;
-    for step in list {
-        if step.event.kind == Kind::Write && step.event.subject == variable {
-            latest = Some(step.position);
-        }
-    }
-    latest
+fn latest_write(list: &[Step], variable: u16) -> Option<u16> {
+    list.iter()
+        .rev()
+        .find(|step| step.event.kind == Kind::Write && step.event.subject == variable)
+        .map(|step| step.position)
 }
 
-/// Who holds the lock after the events of the list.
+/// Who holds the lock after the events of the list: whoever the latest acquire or release of it lets hold it.
 pub(crate) fn holder_of(list: &[Step], lock: u16) -> Option<u8> {
-    let mut holder = None;
-    for step in list {
-        if step.event.subject == lock {
-            match step.event.kind {
-                Kind::Acquire => holder = Some(step.event.thread),
-                Kind::Release => holder = None,
-                Kind::Read | Kind::Write => {}
-            }
-        }
-    }
-    holder
+    list.iter()
+        .rev()
+        .find(|step| !step.event.kind.is_access() && step.event.subject == lock)
+        .filter(|step| step.event.kind == Kind::Acquire)
+        .map(|step| step.event.thread)
 }
 
 /// Whether the trace check admits the event after the events of the list.
@@ -60,66 +79,51 @@ pub(crate) fn is_admitted(list: &[Step], event: &Event) -> bool {
     }
 }
 
-/// Whether a read reads after the list what it read in the trace.
-fn reads_the_same(list: &[Step], step: &Step) -> bool {
-    step.event.kind != Kind::Read || latest_write(list, step.event.subject) == step.last_write
-}
-
-/// Whether the list has an acquire of the lock that stands later in the trace than the position.
-fn has_later_acquire(list: &[Step], lock: u16, position: u16) -> bool {
-    for step in list {
-        if step.event.kind == Kind::Acquire
-            && step.event.subject == lock
-            && step.position > position
-        {
-            return true;
-        }
-    }
-    false
-}
-
-/// Whether an acquire stands after the list in trace order among the acquires of its lock.
-fn keeps_order(list: &[Step], step: &Step) -> bool {
-    step.event.kind != Kind::Acquire || !has_later_acquire(list, step.event.subject, step.position)
-}
-
-/// Whether the event is enabled after the list, which has of each thread the first events: it is not in the list, and all earlier events of
-/// its thread are.
-pub(crate) fn is_enabled(list: &[Step], step: &Step) -> bool {
-    count_of(list, step.event.thread) == step.rank
-}
-
-/// Whether the list with the step after it is a sync-preserving correct reordering, where the list is one.
-pub(crate) fn may_follow(list: &[Step], step: &Step) -> bool {
-    is_enabled(list, step)
-        && is_admitted(list, &step.event)
-        && reads_the_same(list, step)
-        && keeps_order(list, step)
-}
-
 /// Whether the list is a sync-preserving correct reordering: each step may follow those before it.
 pub(crate) fn is_reordering(list: &[Step]) -> bool {
-    for (i, step) in list.iter().enumerate() {
-        if !may_follow(&list[0..i], step) {
-            return false;
-        }
-    }
-    true
+    list.iter()
+        .enumerate()
+        .all(|(i, step)| step.may_follow(&list[..i]))
 }
 
-/// Lets the event come next in the trace.
-pub(crate) fn extend(trace: &mut Vec<Step>, event: Event) -> anyhow::Result<()> {
-    let position = u16::try_from(trace.len())?;
-    let rank = count_of(trace.as_slice(), event.thread);
-    let last_write = match event.kind {
-        Kind::Read => latest_write(trace.as_slice(), event.subject),
-        Kind::Write | Kind::Acquire | Kind::Release => None,
-    };
-    trace.push(Step {
-        position,
-        event,
-        rank,
-        last_write,
-    })?;
-    Ok(())
+/// The steps of a trace, in order.
+#[derive(Clone, Drop)]
+pub(crate) struct Trace {
+    steps: Vec<Step>,
+}
+
+impl Trace {
+    /// The trace with no event.
+    pub(crate) fn new(heap: Global) -> Trace {
+        Trace {
+            steps: Vec::new(heap),
+        }
+    }
+
+    /// The steps.
+    pub(crate) fn steps(&self) -> &[Step] {
+        self.steps.as_slice()
+    }
+
+    /// Lets the event come next.
+    pub(crate) fn extend(&mut self, event: Event) -> anyhow::Result<()> {
+        let position = u16::try_from(self.steps.len())?;
+        let rank = count_of(self.steps(), event.thread);
+        let last_write = match event.kind {
+            Kind::Read => latest_write(self.steps(), event.subject),
+            Kind::Write | Kind::Acquire | Kind::Release => None,
+        };
+        self.steps.push(Step {
+            position,
+            event,
+            rank,
+            last_write,
+        })?;
+        Ok(())
+    }
+
+    /// Takes the last event off again.
+    pub(crate) fn shorten(&mut self) {
+        let _ = self.steps.pop();
+    }
 }

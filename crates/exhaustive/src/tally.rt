@@ -1,9 +1,11 @@
 //! What was tried, in numbers.
-use crate::steps::Step;
-use std::alloc::{AllocError, Global};
+use crate::search::Search;
+use crate::steps::Trace;
+use std::alloc::AllocError;
+use std::ops::AddAssign;
 
 /// How much was tried, and how many answers differ from what the search found.
-#[derive(Drop)]
+#[derive(Default, Drop)]
 pub(crate) struct Tally {
     pub(crate) traces: u64,
     pub(crate) pairs: u64,
@@ -11,22 +13,24 @@ pub(crate) struct Tally {
     pub(crate) reorderings: u64,
     pub(crate) answers: u64,
     pub(crate) differences: u64,
-    /// The first trace on which an answer differs; none has no events.
-    pub(crate) differs: Vec<Step>,
+    /// The first trace on which an answer differs, if there is one.
+    pub(crate) differs: Option<Trace>,
 }
 
 impl Tally {
-    /// Nothing was tried.
-    pub(crate) fn new(heap: Global) -> Tally {
-        Tally {
-            traces: 0,
-            pairs: 0,
-            races: 0,
-            reorderings: 0,
-            answers: 0,
-            differences: 0,
-            differs: Vec::new(heap),
-        }
+    /// Counts what a search has tried.
+    pub(crate) fn count(&mut self, search: &Search<'_>) {
+        let pairs = search.findings.len();
+        let races = search
+            .findings
+            .iter()
+            .filter(|finding| finding.is_race())
+            .count();
+        self.traces = self.traces.saturating_add(1);
+        self.reorderings = self.reorderings.saturating_add(search.reorderings);
+        // casts, since std has no `From<usize>` for u64, and a `try_from` would need an answer for what does not fit
+        self.pairs = self.pairs.saturating_add(pairs as u64);
+        self.races = self.races.saturating_add(races as u64);
     }
 
     /// Counts an answer, and whether it is the one that was found.
@@ -38,21 +42,25 @@ impl Tally {
     }
 
     /// Keeps the trace, if an answer on it is the first that differs.
-    pub(crate) fn keep(&mut self, trace: &[Step]) -> Result<(), AllocError> {
-        if self.differences > 0 && self.differs.is_empty() {
-            self.differs.extend_from_slice(trace)?;
+    pub(crate) fn keep(&mut self, trace: &Trace) -> Result<(), AllocError> {
+        if self.differences > 0 && self.differs.is_none() {
+            self.differs = Some(trace.clone()?);
         }
         Ok(())
     }
+}
 
-    /// Adds what another tally has.
-    pub(crate) fn add(&mut self, other: &Tally) -> Result<(), AllocError> {
+/// Adds what another tally has, which was made later.
+impl AddAssign for Tally {
+    fn add_assign(&mut self, other: Tally) {
         self.traces = self.traces.saturating_add(other.traces);
         self.pairs = self.pairs.saturating_add(other.pairs);
         self.races = self.races.saturating_add(other.races);
         self.reorderings = self.reorderings.saturating_add(other.reorderings);
         self.answers = self.answers.saturating_add(other.answers);
         self.differences = self.differences.saturating_add(other.differences);
-        self.keep(other.differs.as_slice())
+        if self.differs.is_none() {
+            self.differs = other.differs;
+        }
     }
 }

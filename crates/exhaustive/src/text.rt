@@ -1,23 +1,27 @@
 //! What is printed.
 use crate::plan::{Choice, Plan};
-use crate::steps::Step;
+use crate::steps::{Step, Trace};
 use crate::tally::Tally;
-use std::{fmt, io};
+use std::fmt;
 use trace::kind::Kind;
+
+/// Which traces are tried.
+impl fmt::Display for Choice {
+    fn fmt<W: fmt::Write>(&self, f: &mut fmt::Formatter<W>) -> fmt::Result {
+        match self {
+            Choice::All { most } => write!(f, "all of 1 to {most} events"),
+            Choice::Drawn { .. } => write!(f, "drawn, of 8 to 11 events"),
+        }
+    }
+}
 
 /// Which traces the plan tries.
 impl fmt::Display for Plan {
     fn fmt<W: fmt::Write>(&self, f: &mut fmt::Formatter<W>) -> fmt::Result {
-        let threads = self.shape.threads;
-        let variables = self.shape.variables;
-        let locks = self.shape.locks;
-        match self.choice {
-            Choice::All { most } => write!(f, "all of 1 to {most} events")?,
-            Choice::Drawn { .. } => write!(f, "drawn, of 8 to 11 events")?,
-        }
         write!(
             f,
-            ", threads {threads}, variables {variables}, locks {locks}"
+            "{}, threads {}, variables {}, locks {}",
+            self.choice, self.shape.threads, self.shape.variables, self.shape.locks
         )
     }
 }
@@ -25,21 +29,16 @@ impl fmt::Display for Plan {
 /// The numbers of the tally.
 impl fmt::Display for Tally {
     fn fmt<W: fmt::Write>(&self, f: &mut fmt::Formatter<W>) -> fmt::Result {
-        let traces = self.traces;
-        let pairs = self.pairs;
-        let races = self.races;
-        let reorderings = self.reorderings;
-        let answers = self.answers;
-        let differences = self.differences;
-        write!(f, "traces {traces}, pairs {pairs}, races {races}, ")?;
         write!(
             f,
-            "reorderings {reorderings}, answers {answers}, differences {differences}"
+            "traces {}, pairs {}, races {}, reorderings {}, answers {}, differences {}",
+            self.traces, self.pairs, self.races, self.reorderings, self.answers, self.differences
         )
     }
 }
 
 /// The letter of a kind.
+// a function, and no `Display`: Kind is a type of another crate, and a wrapper for its letter would be no plainer
 fn letter_of(kind: Kind) -> char {
     match kind {
         Kind::Read => 'r',
@@ -49,13 +48,20 @@ fn letter_of(kind: Kind) -> char {
     }
 }
 
-/// Prints the events of a trace, each as thread, letter, subject.
-pub(crate) fn print_trace(rt: &HostRuntime, trace: &[Step]) -> io::Result<()> {
-    for step in trace {
-        let thread = step.event.thread;
-        let letter = letter_of(step.event.kind);
-        let subject = step.event.subject;
-        print!(rt; " {thread}{letter}{subject}")?;
+/// The event: thread, letter, subject.
+impl fmt::Display for Step {
+    fn fmt<W: fmt::Write>(&self, f: &mut fmt::Formatter<W>) -> fmt::Result {
+        let letter = letter_of(self.event.kind);
+        write!(f, "{}{letter}{}", self.event.thread, self.event.subject)
     }
-    println!(rt; "")
+}
+
+/// The events, each after a blank.
+impl fmt::Display for Trace {
+    fn fmt<W: fmt::Write>(&self, f: &mut fmt::Formatter<W>) -> fmt::Result {
+        for step in self.steps() {
+            write!(f, " {step}")?;
+        }
+        Ok(())
+    }
 }

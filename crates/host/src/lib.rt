@@ -10,6 +10,7 @@ use answer::fault::{EntryRefusal, PairFault};
 use answer::verdict::Verdict;
 use reel::board::BoardReel;
 use session::session::Session;
+use trace::fault::Fault;
 
 /// Why there is no verdict.
 #[derive(Clone, Copy)]
@@ -20,11 +21,10 @@ enum HostFault {
     Judge(PairFault),
 }
 
-impl HostFault {
-    /// The number of the refusal.
-    fn number(self) -> u8
-        ensures { result ≡ fault_number self }
-    {
+impl Fault for HostFault {
+    ghost number = { fault_number };
+
+    fn number(self) -> u8 {
         match self {
             HostFault::Load(refusal) => refusal.fault.number(),
             HostFault::Judge(fault) => fault.number(),
@@ -62,6 +62,7 @@ fn verdict(dump: &[u8], p: usize, q: usize) -> Result<Verdict, HostFault>
 pub extern "C" fn lenogneiss_judge(dump: &[u8], p: usize, q: usize) -> u32
     ensures { HostAnswers dump.now p q result }
 {
+    // one number for an enum, since that is what C is told
     match verdict(dump, p, q) {
         Ok(verdict) => u32::from(verdict.number()),
         Err(fault) => 100 + u32::from(fault.number()),

@@ -1,5 +1,5 @@
 -- What the tests of a position tell: whether its event is outside the cut, or inside and of some sort.
-use Rattle.std.proofs.Common.{◌≡◌, ℕ, Bool, true, false, not, ◌&&◌, List, Some, None, Option, sym, refl, ap, ◌∙◌}
+use Rattle.std.proofs.Common.{◌≡◌, ℕ, Bool, true, false, not, ◌&&◌, List, ◌∷◌, drop, Some, None, Option, sym, refl, ap, ◌∙◌}
 use Rattle.std.specs.List.{slice_get}
 use Rattle.std.proofs.lemmas.Bool.{both_ways, not-true, not-false, false≢true, and_parts, and_from}
 use Rattle.trace.specs.declared.event.Event.{Event}
@@ -7,6 +7,7 @@ use Rattle.trace.specs.Traces.{At}
 use Rattle.trace.specs.Lookups.{fits_here}
 use Rattle.trace.specs.Cuts.{In}
 use Rattle.trace.proofs.Events.{at_inside}
+use Rattle.reel.proofs.Left.{passes_some}
 use Rattle.predict.specs.Held.{below, held, lacks, Outside}
 use Rattle.predict.specs.Parts.{fits_inside}
 
@@ -25,6 +26,10 @@ pub record Seen (t : List Event) (bs : List ℕ) (k : ℕ) (e : Event) (b : Bool
   pub told : b ≡ below bs k e
 
 module _ (t : List Event) (bs : List ℕ) where
+  -- so it is with the first of the events from k on
+  pub seen_first : {b : Bool} (k : ℕ) (e : Event) (left rest : List Event) → left ≡ drop k t → left ≡ e ∷ rest → b ≡ below bs k e → Seen t bs k e b
+  seen_first k e left rest from first told = record { is = (passes_some t k e left rest from first).0; told = told }
+
   pub seen_at : {k : ℕ} {e : Event} {b : Bool} → Seen t bs k e b → At t k e
   seen_at s = sym s.is
 

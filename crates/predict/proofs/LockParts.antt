@@ -1,5 +1,5 @@
 -- The acquires of a lock in a cut, one after the other: each but the latest has its release in the cut, or that is missing.
-use Rattle.std.proofs.Common.{◌≡◌, ℕ, ◌+◌, ◌<◌, ◌≤◌, true, false, eqb, ◌⊎◌, List, length, get_or, set, replicate, Some, None, Option, sym, refl, ap, ◌∙◌, inl, inr, ⊎_elim, arith}
+use Rattle.std.proofs.Common.{◌≡◌, ℕ, ◌+◌, ◌<◌, ◌≤◌, Bool, true, false, eqb, ◌⊎◌, List, length, get_or, set, replicate, Some, None, Option, sym, refl, ap, ◌∙◌, inl, inr, ⊎_elim, arith}
 use Rattle.std.specs.List.{slice_get}
 use Rattle.std.proofs.lemmas.Bool.{cases_eq, both_ways, and_parts, and_from, eqb-true, eq-eqb}
 use Rattle.std.proofs.lemmas.List.{length-set, get_or-set_same, get_or-set_other}
@@ -7,13 +7,13 @@ use Rattle.trace.specs.declared.event.Event.{Event}
 use Rattle.trace.specs.declared.kind.Kind.{Kind}
 use Rattle.trace.specs.declared.kind.Kind.TheVariants.{Read, Write, Acquire, Release}
 use Rattle.trace.specs.Traces.{ReleaseOf}
-use Rattle.trace.specs.Lookups.{release_of}
+use Rattle.trace.specs.Lookups.{fits_here, release_of}
 use Rattle.trace.specs.Cuts.{In}
 use Rattle.trace.proofs.Events.{at_inside, at_same}
 use Rattle.trace.proofs.Lookups.{release_found}
 use Rattle.predict.specs.Held.{below, held, lacks, Misses}
-use Rattle.predict.specs.Parts.{AcquireIn, AcquiredAt, PastAcquires, LockWants, acquiring, acquires, fits_inside}
-use Rattle.predict.proofs.Inside.{lacks_outside, lacks_inside, inside_event, inside_from, seen_held}
+use Rattle.predict.specs.Parts.{AcquireIn, PastAcquires, LockWants, acquiring, acquires, fits_inside}
+use Rattle.predict.proofs.Inside.{lacks_outside, lacks_inside, inside_event, inside_from, Seen, seen_at, seen_held}
 
 is_acquiring : (k : Kind) → acquiring k ≡ true → k ≡ Acquire
 is_acquiring Acquire h = refl
@@ -42,15 +42,15 @@ module _ (t : List Event) (bs : List ℕ) where
       both_ways (fits_inside (acquires l) t bs k) (sym h)
       (inside_from t bs (acquires l) k a.event a.is (as_acquire a.event l a.is_acquire a.its_lock) a.inside)
 
-  -- an acquire below the bound of its thread is in the cut
-  pub acquired_here : (k : ℕ) (e : Event) → Some e ≡ slice_get t k → e.kind ≡ Acquire → true ≡ below bs k e → AcquireIn t (held t bs) e.subject k
-  acquired_here k e i kind inside = record {
-    event = e;
-    inside = seen_held t bs (record { is = i; told = inside });
-    is = sym i;
-    is_acquire = kind;
-    its_lock = refl;
-  }
+  -- an acquire in the cut is seen
+  pub acquired : {k : ℕ} {e : Event} {b : Bool} → Seen t bs k e b → e.kind ≡ Acquire → b ≡ true → AcquireIn t (held t bs) e.subject k
+  acquired {e = e} s kind inside = record { event = e; inside = seen_held t bs s ∙ inside; is = seen_at t bs s; is_acquire = kind; its_lock = refl }
+
+  -- an event of another kind, or outside the cut, is none
+  pub not_acquired : {k : ℕ} {e : Event} → Some e ≡ slice_get t k → (e.kind ≡ Acquire → below bs k e ≡ true → ⊥) → (l : ℕ)
+      → AcquireIn t (held t bs) l k → ⊥
+  not_acquired {k} {e} is none l a =
+      none (ap (λ (f : Event). f.kind) (at_same t k e a.event (sym is) a.is) ∙ a.is_acquire) (ap (fits_here (below bs k)) is ∙ a.inside)
 
   -- the lock of an acquire in the cut is one of the 64
   lock_few : (l a : ℕ) → AcquireIn t (held t bs) l a → l < 64
@@ -72,13 +72,13 @@ module _ (t : List Event) (bs : List ℕ) where
   pub ends_start : EndsSoFar 0 (replicate 64 0)
   ends_start = record { whole = refl; past = λ l a b. absurd (omega arith) }
 
-  pub ends_stay : (k : ℕ) (ends : List ℕ) → AcquiredAt t bs k None → EndsSoFar k ends → EndsSoFar (k + 1) ends
+  pub ends_stay : (k : ℕ) (ends : List ℕ) → ((l : ℕ) → AcquireIn t (held t bs) l k → ⊥) → EndsSoFar k ends → EndsSoFar (k + 1) ends
   ends_stay k ends none old = record {
     whole = old.whole;
     past = λ l a b is. ⊎_elim (λ q. absurd (none l (rw q at is))) (λ q. old.past l a (omega arith) is) (cases_eq a k);
   }
 
-  pub ends_more : (k l : ℕ) (ends : List ℕ) → AcquiredAt t bs k (Some l) → EndsSoFar k ends → EndsSoFar (k + 1) (set ends l (k + 1))
+  pub ends_more : (k l : ℕ) (ends : List ℕ) → AcquireIn t (held t bs) l k → EndsSoFar k ends → EndsSoFar (k + 1) (set ends l (k + 1))
   ends_more k l ends here old = record { whole = length-set ends l (k + 1) ∙ old.whole; past = past }
     where
       past : (m a : ℕ) → a < k + 1 → AcquireIn t (held t bs) m a → a < get_or (set ends l (k + 1)) m 0
@@ -108,10 +108,6 @@ module _ (t : List Event) (bs : List ℕ) where
   LatestAcquire l k None = (m : ℕ) → m < k → AcquireIn t (held t bs) l m → ⊥
   LatestAcquire l k (Some a) = AcquireIn t (held t bs) l a × (a < k)
       × ((m : ℕ) → m < k → AcquireIn t (held t bs) l m → (m ≡ a) ⊎ ((m < a) × ReleaseInside m))
-
-  -- there is none at first; then it stays, or the position is the latest
-  pub latest_none : (l : ℕ) → LatestAcquire l 0 None
-  latest_none l m b = absurd (omega arith)
 
   pub latest_stays : (l k : ℕ) (o : Option ℕ) → false ≡ fits_inside (acquires l) t bs k → LatestAcquire l k o → LatestAcquire l (k + 1) o
   latest_stays l k None h old = λ m b a. ⊎_elim (λ q. not_acquire_in l k h (rw q at a)) (λ q. old m (omega arith) a) (cases_eq m k)

@@ -1,5 +1,6 @@
 -- The last writes of the reads of a cut, in one pass: a table has the last write so far to each variable, if that is outside the cut.
-use Rattle.std.proofs.Common.{◌≡◌, ℕ, ◌+◌, ◌<◌, ◌≤◌, Bool, true, false, cond, ◌&&◌, eqb, ◌⊎◌, List, length, get_or, set, replicate, is_some, Some, None, Option, sym, refl, ap, ◌∙◌, inl, inr, ⊎_elim, arith}
+use Rattle.std.proofs.Common.{◌≡◌, ℕ, ◌+◌, ◌<◌, ◌≤◌, Bool, true, false, not, ◌&&◌, eqb, ◌⊎◌, List, length, get_or, set, replicate, is_some, Some, None, Option, sym, refl, ap, ◌∙◌, inl, inr, ⊎_elim, below_more, arith}
+use Rattle.std.specs.Bool.{then_some}
 use Rattle.std.specs.List.{slice_get}
 use Rattle.std.proofs.lemmas.Bool.{cases_eq, true≢false, eq-eqb, ne_eqb}
 use Rattle.std.proofs.lemmas.List.{length-set, get_or-set_same, get_or-set_other, get_or-replicate}
@@ -27,7 +28,7 @@ module _ (t : List Event) (bs : List ℕ) where
   -- a position, if it is outside the cut
   abbrev outside_of : Option ℕ → Option ℕ
   outside_of None = None
-  outside_of (Some w) = cond (held t bs w) None (Some w)
+  outside_of (Some w) = then_some (not (held t bs w)) w
 
   -- the read at k has its last write in the cut
   abbrev Settled : ℕ → Type 0
@@ -46,19 +47,13 @@ module _ (t : List Event) (bs : List ℕ) where
     settled = λ m b. absurd (omega arith);
   }
 
-  settled_more : (k : ℕ) → ((m : ℕ) → m < k → Settled m) → Settled k → (m : ℕ) → m < k + 1 → Settled m
-  settled_more k old new m b = ⊎_elim (λ q. rw q new) (λ q. old m (omega arith)) (cases_eq m k)
-
   -- a position with no write passes, if a read there is settled
   pass_no_write : (k : ℕ) (table : List (Option ℕ)) → ((x : ℕ) → fits_here (writes x) (slice_get t k) ≡ false) → Settled k → Pass k table → Pass (k + 1) table
   pass_no_write k table none here p = record {
     whole = p.whole;
     noted = λ x b. p.noted x b ∙ ap outside_of (sym (latest_skip (writes x) t k (none x)));
-    settled = settled_more k p.settled here;
+    settled = below_more Settled k p.settled here;
   }
-
-  pub pass_empty : (k : ℕ) (table : List (Option ℕ)) → None ≡ slice_get t k → Pass k table → Pass (k + 1) table
-  pass_empty k table q = pass_no_write k table (λ x. sym (ap (fits_here (writes x)) q)) (λ w i l. let at = l.read_is in absurd (grind arith))
 
   module _ (k : ℕ) (table : List (Option ℕ)) (e : Event) (b : Bool) (seen : Seen t bs k e b) (p : Pass k table) where
     not_write : (e.kind ≡ Write → ⊥) → (x : ℕ) → fits_here (writes x) (slice_get t k) ≡ false
@@ -72,18 +67,18 @@ module _ (t : List Event) (bs : List ℕ) where
     pass_lock is = pass_no_write k table (not_write (λ q. clash is q)) (not_read (λ q. clash_read is q)) p
       where
         clash : (e.kind ≡ Acquire) ⊎ (e.kind ≡ Release) → e.kind ≡ Write → ⊥
-        clash (inl r) q = let z : ◌≡◌ {A = ℕ} 0 1 = cc in omega arith
-        clash (inr r) q = let z : ◌≡◌ {A = ℕ} 0 1 = cc in omega arith
+        clash (inl r) q = grind arith
+        clash (inr r) q = grind arith
 
         clash_read : (e.kind ≡ Acquire) ⊎ (e.kind ≡ Release) → e.kind ≡ Read → ⊥
-        clash_read (inl r) q = let z : ◌≡◌ {A = ℕ} 0 1 = cc in omega arith
-        clash_read (inr r) q = let z : ◌≡◌ {A = ℕ} 0 1 = cc in omega arith
+        clash_read (inl r) q = grind arith
+        clash_read (inr r) q = grind arith
 
     -- a read passes that is outside, or has nothing noted
     pub pass_read : e.kind ≡ Read → (b ≡ true → is_some (get_or table e.subject None) ≡ false) → Pass (k + 1) table
-    pass_read is free = pass_no_write k table (not_write (λ q. let z : ◌≡◌ {A = ℕ} 0 1 = cc in omega arith)) here p
+    pass_read is free = pass_no_write k table (not_write (λ q. grind arith)) here p
       where
-        inside : (w : ℕ) (c : Bool) → is_some {T = ℕ} (cond c None (Some w)) ≡ false → c ≡ true
+        inside : (w : ℕ) (c : Bool) → is_some {T = ℕ} (then_some (not c) w) ≡ false → c ≡ true
         inside w true h = refl
         inside w false h = absurd (true≢false h)
 
@@ -94,11 +89,11 @@ module _ (t : List Event) (bs : List ℕ) where
             inside w (held t bs w) (ap is_some (sym (p.noted e.subject few ∙ ap outside_of last)) ∙ free (sym (seen_held t bs seen) ∙ i))
 
     -- a write is noted, if it is outside
-    pub pass_write : (o : Option ℕ) → e.kind ≡ Write → o ≡ cond b None (Some k) → Pass (k + 1) (set table e.subject o)
+    pub pass_write : (o : Option ℕ) → e.kind ≡ Write → o ≡ then_some (not b) k → Pass (k + 1) (set table e.subject o)
     pass_write o is new = record {
       whole = length-set table e.subject o ∙ p.whole;
       noted = λ x low. ⊎_elim (own x) (other x low) (cases_eq x e.subject);
-      settled = settled_more k p.settled (not_read (λ q. let z : ◌≡◌ {A = ℕ} 0 1 = cc in omega arith));
+      settled = below_more Settled k p.settled (not_read (λ q. grind arith));
     }
       where
         few : e.subject < 1024
@@ -110,7 +105,7 @@ module _ (t : List Event) (bs : List ℕ) where
         own : (x : ℕ) → x ≡ e.subject → get_or (set table e.subject o) x None ≡ outside_of (latest (writes x) t (k + 1))
         own x q =
             let same : get_or (set table e.subject o) x None ≡ o = rw q (get_or-set_same table e.subject o None (omega (arith, few, p.whole))) in
-            let noted : o ≡ outside_of (Some k) = new ∙ ap (λ c. cond c None (Some k)) (sym (seen_held t bs seen)) in
+            let noted : o ≡ outside_of (Some k) = new ∙ ap (λ c. then_some (not c) k) (sym (seen_held t bs seen)) in
             same ∙ noted ∙ ap outside_of (sym (latest_here (writes x) t k (test x true (eq-eqb e.subject x (sym q)))))
 
         other : (x : ℕ) → x < 1024 → (x ≡ e.subject → ⊥) → get_or (set table e.subject o) x None ≡ outside_of (latest (writes x) t (k + 1))
@@ -131,7 +126,7 @@ module _ (t : List Event) (bs : List ℕ) where
               exact = record { read = k; inside = seen_held t bs seen ∙ i; last_write = l };
             }
 
-        out_of : (r w : ℕ) (c : Bool) → Some r ≡ cond c None (Some w) → (c ≡ false) × (r ≡ w)
+        out_of : (r w : ℕ) (c : Bool) → Some r ≡ then_some (not c) w → (c ≡ false) × (r ≡ w)
         out_of r w true q = absurd (grind arith)
         out_of r w false q = (refl, cc)
 

@@ -1,22 +1,20 @@
 -- The rules from their parts: what is answered for the parts answers for the rule.
-use Rattle.std.proofs.Common.{ℕ, List, Some, None, Option, sym, refl, ◌∙◌}
+use Rattle.std.proofs.Common.{◌≡◌, ℕ, List, Some, None, Option, MatchOption, sym, refl, ◌∙◌}
 use Rattle.trace.specs.declared.event.Event.{Event}
 use Rattle.trace.specs.Cuts.{Wants, Closed, SyncWants, HappensBeforeWants, SchedulableWants}
 use Rattle.trace.specs.Cuts.SyncWants.{last_write, earlier_release}
-use Rattle.trace.specs.Cuts.SchedulableWants.{as_before, last_write as Read-of}
+use Rattle.trace.specs.Cuts.SchedulableWants.{as_before, last_write as of_read}
 use Rattle.predict.specs.Held.{held, Misses}
 use Rattle.predict.specs.Parts.{ReadWants, LockWants}
 
 module _ (t : List Event) (bs : List ℕ) where
   -- an answer for the first of two parts, where it names an event, and else for the second, is one for the rule
-  misses_first : (one all : Wants) → ((w : ℕ) → one t (held t bs) w → all t (held t bs) w) → (w : ℕ) → Misses one t bs (Some w) → Misses all t bs (Some w)
-  misses_first one all into w h = record { outside = h.outside; exact = into w h.exact }
-
-  misses_second : (one two all : Wants) → ((w : ℕ) → two t (held t bs) w → all t (held t bs) w)
+  misses_either : (one two all : Wants) → ((w : ℕ) → one t (held t bs) w → all t (held t bs) w) → ((w : ℕ) → two t (held t bs) w → all t (held t bs) w)
       → (Closed one t (held t bs) → Closed two t (held t bs) → Closed all t (held t bs))
-      → Misses one t bs None → (r : Option ℕ) → Misses two t bs r → Misses all t bs r
-  misses_second one two all into both first None h = record { outside = tt; exact = both first.exact h.exact }
-  misses_second one two all into both first (Some w) h = record { outside = h.outside; exact = into w h.exact }
+      → (first r : Option ℕ) → Misses one t bs first → MatchOption first (Misses two t bs r) (λ w. r ≡ Some w) → Misses all t bs r
+  misses_either one two all here there both (Some w) r h is = rw is (record { outside = h.outside; exact = here w h.exact })
+  misses_either one two all here there both None None h rest = record { outside = tt; exact = both h.exact rest.exact }
+  misses_either one two all here there both None (Some w) h rest = record { outside = rest.outside; exact = there w rest.exact }
 
   -- the sync rule: reads, then locks
   read_sync : (w : ℕ) → ReadWants t (held t bs) w → SyncWants t (held t bs) w
@@ -40,22 +38,18 @@ module _ (t : List Event) (bs : List ℕ) where
     release = rel;
   })
 
-  pub sync_first : (w : ℕ) → Misses ReadWants t bs (Some w) → Misses SyncWants t bs (Some w)
-  sync_first = misses_first ReadWants SyncWants read_sync
-
-  pub sync_second : Misses ReadWants t bs None → (r : Option ℕ) → Misses LockWants t bs r → Misses SyncWants t bs r
-  sync_second = misses_second ReadWants LockWants SyncWants lock_sync sync_closed
+  pub sync_misses : (first r : Option ℕ) → Misses ReadWants t bs first → MatchOption first (Misses LockWants t bs r) (λ w. r ≡ Some w)
+      → Misses SyncWants t bs r
+  sync_misses = misses_either ReadWants LockWants SyncWants read_sync lock_sync sync_closed
 
   -- the rule of schedulable happens-before: earlier releases, then reads
   read_schedulable : (w : ℕ) → ReadWants t (held t bs) w → SchedulableWants t (held t bs) w
-  read_schedulable w h = Read-of h.inside h.last_write
+  read_schedulable w h = of_read h.inside h.last_write
 
   schedulable_closed : Closed HappensBeforeWants t (held t bs) → Closed ReadWants t (held t bs) → Closed SchedulableWants t (held t bs)
   schedulable_closed locks reads w (as_before h) = locks w h
-  schedulable_closed locks reads w (Read-of {k} i l) = reads w (record { read = k; inside = i; last_write = l })
+  schedulable_closed locks reads w (of_read {k} i l) = reads w (record { read = k; inside = i; last_write = l })
 
-  pub schedulable_first : (w : ℕ) → Misses HappensBeforeWants t bs (Some w) → Misses SchedulableWants t bs (Some w)
-  schedulable_first = misses_first HappensBeforeWants SchedulableWants (λ w h. as_before h)
-
-  pub schedulable_second : Misses HappensBeforeWants t bs None → (r : Option ℕ) → Misses ReadWants t bs r → Misses SchedulableWants t bs r
-  schedulable_second = misses_second HappensBeforeWants ReadWants SchedulableWants read_schedulable schedulable_closed
+  pub schedulable_misses : (first r : Option ℕ) → Misses HappensBeforeWants t bs first → MatchOption first (Misses ReadWants t bs r) (λ w. r ≡ Some w)
+      → Misses SchedulableWants t bs r
+  schedulable_misses = misses_either HappensBeforeWants ReadWants SchedulableWants (λ w h. as_before h) read_schedulable schedulable_closed

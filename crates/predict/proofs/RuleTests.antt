@@ -7,7 +7,7 @@ use Rattle.trace.specs.declared.kind.Kind.TheVariants.{Acquire}
 use Rattle.trace.specs.Traces.{At}
 use Rattle.trace.specs.Lookups.{fits_here, releases, last_write, release_of}
 use Rattle.trace.specs.Cuts.{Positions, In, Wants, SyncWants, HappensBeforeWants, SchedulableWants}
-use Rattle.trace.specs.Cuts.SyncWants.{last_write as Read-of, earlier_release}
+use Rattle.trace.specs.Cuts.SyncWants.{last_write as of_read, earlier_release}
 use Rattle.trace.specs.Cuts.HappensBeforeWants.{release_before}
 use Rattle.trace.specs.Cuts.SchedulableWants.{as_before, last_write as read_by_lem}
 use Rattle.trace.proofs.Events.{at_inside}
@@ -158,11 +158,11 @@ sync_decided = record { wanted = wanted; passes = passes }
 
     wanted : (t : List Event) (c : Positions) (w : ℕ) → either (some_in read_test) lock_test t c w ≡ true → SyncWants t c w
     wanted t c w h =
-        ⊎_elim (λ b. let r = reads_decided.wanted t c w b in Read-of r.inside r.last_write) (locks t c w)
+        ⊎_elim (λ b. let r = reads_decided.wanted t c w b in of_read r.inside r.last_write) (locks t c w)
         (or_cases (some_in read_test t c w) (lock_test t c w) h)
 
     passes : (t : List Event) (c : Positions) (w : ℕ) → SyncWants t c w → either (some_in read_test) lock_test t c w ≡ true
-    passes t c w (Read-of {k} i l) = or_left (some_in read_test t c w) (lock_test t c w)
+    passes t c w (of_read {k} i l) = or_left (some_in read_test t c w) (lock_test t c w)
         (reads_decided.passes t c w (record { read = k; inside = i; last_write = l }))
     passes t c w (earlier_release {a} {b} {e} {f} i j lt p q ie if same rel) =
         or_right (some_in read_test t c w) (lock_test t c w)

@@ -1,24 +1,23 @@
--- Previous events come in one by one.
-use Rattle.std.proofs.Common.{◌≡◌, ℕ, ◌+◌, ◌<◌, List, [], ◌∷◌, ◌++◌, length, get_or, take, Some, None, fold, Option, refl}
-use Rattle.std.proofs.lemmas.List.{take_more}
+-- What the seeds are that an iterator gives.
+use Rattle.std.proofs.Common.{◌≡◌, ℕ, List, [], ◌∷◌, Some, None, Option, sym, refl, ap, ◌∙◌}
+use mathlib.Core.List.{map-id}
+use Rattle.std.specs.Iterator.{Drains}
+use Rattle.std.specs.List.{filter_map, cons_option}
+use Rattle.std.proofs.iter.Yields.{gives_Drains}
+use Rattle.std.proofs.lemmas.Iterator.{YieldsList}
 use Rattle.trace.specs.declared.event.Event.{Event}
 use Rattle.trace.specs.Lookups.{previous, after_some, previous_events}
 
--- the previous event of one event more
-pub previous_push : {B : Type 0} (t : List Event) (f : B → ℕ → B) (b : B) (xs : List ℕ) (e : ℕ)
-    → fold f b (previous_events t (xs ++ (e ∷ []))) ≡ fold f (fold f b (previous_events t xs)) (after_some (previous t e) [])
-previous_push t f b [] e = refl
-previous_push {B} t f b (x ∷ xs) e = by (previous t x) (λ c. previous_push t f c xs e)
-  where
-    by : (o : Option ℕ)
-        → ((c : B) → fold f c (previous_events t (xs ++ (e ∷ []))) ≡ fold f (fold f c (previous_events t xs)) (after_some (previous t e) []))
-        → fold f b (after_some o (previous_events t (xs ++ (e ∷ [])))) ≡ fold f (fold f b (after_some o (previous_events t xs))) (after_some (previous t e) [])
-    by None rest = rest b
-    by (Some k) rest = rest (f b k)
+-- those that it yields
+pub drained : {S : Type 0} {steps : S → Option ℕ → S → Type 0} {s : S} {all : List ℕ} (ss : List ℕ) → Drains steps s ss → YieldsList steps (λ k. k) s all
+    → ss ≡ all
+drained {S} {steps} {s} {all} ss drains yields = sym (map-id ss) ∙ gives_Drains steps (λ k. k) ss all s yields.runs drains
 
--- the same where the events are the first ones of a list
-pub previous_more : {B : Type 0} (t : List Event) (f : B → ℕ → B) (start b next : B) (es : List ℕ) (i : ℕ) (o : Option ℕ) → i < length es
-    → o ≡ previous t (get_or es i 0) → b ≡ fold f start (previous_events t (take i es)) → next ≡ fold f b (after_some o [])
-    → next ≡ fold f start (previous_events t (take (i + 1) es))
-previous_more t f start b next es i o inside found was is =
-    rw (take_more es i 0 inside, previous_push t f start (take i es) (get_or es i 0), ← found, ← was) is
+-- and the previous events of some events, as far as there are any, where it looks for each
+pub previous_filtered : (t : List Event) (es : List ℕ) → filter_map (previous t) es ≡ previous_events t es
+previous_filtered t [] = refl
+previous_filtered t (e ∷ es) = by (previous t e) (filter_map (previous t) es) ∙ ap (after_some (previous t e)) (previous_filtered t es)
+  where
+    by : (o : Option ℕ) (ks : List ℕ) → cons_option o ks ≡ after_some o ks
+    by None ks = refl
+    by (Some k) ks = refl

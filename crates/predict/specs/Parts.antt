@@ -1,5 +1,5 @@
 -- The parts of the rules.
-use Rattle.std.specs.Prelude.{◌≡◌, ℕ, ◌<◌, Bool, true, false, ◌&&◌, List, length, Some, None, Option, ◌==◌, slice_index}
+use Rattle.std.specs.Prelude.{◌≡◌, ℕ, ◌<◌, Bool, true, false, ◌&&◌, List, length, ◌==◌, slice_index}
 use Rattle.std.specs.List.{slice_get}
 use Rattle.trace.specs.declared.event.Event.{Event}
 use Rattle.trace.specs.declared.kind.Kind.{Kind}
@@ -37,11 +37,6 @@ pub record AcquireIn (t : List Event) (c : Positions) (l a : ℕ) : Type 0 where
   pub is : At t a event
   pub is_acquire : event.kind ≡ Acquire
   pub its_lock : event.subject ≡ l
-
--- a lock that is acquired at k in the cut below the bounds, or none is
-abbrev pub AcquiredAt : List Event → List ℕ → ℕ → Option ℕ → Type 0
-AcquiredAt t bounds k None = (l : ℕ) → AcquireIn t (held t bounds) l k → ⊥
-AcquiredAt t bounds k (Some l) = AcquireIn t (held t bounds) l k
 
 -- for each lock, its acquires in the cut below the bounds stand before the position that the table has for it
 pub record PastAcquires (t : List Event) (bounds ends : List ℕ) : Type 0 where

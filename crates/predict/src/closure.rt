@@ -1,5 +1,6 @@
 //! The closure of seeds under a rule: a cut that grows until the rule misses no event.
 ghost use Rattle.std.specs.Prelude.{◌≡◌, ℕ, List, fold};
+ghost use Rattle.std.specs.Iterator.{IsFinite, Drains};
 ghost use Rattle.trace.specs.Traces.{Admits};
 ghost use Rattle.trace.specs.Lookups.{previous_events};
 ghost use Rattle.trace.specs.Cuts.{Closed, Inside, AllReached};
@@ -9,6 +10,8 @@ use crate::cut::Cut;
 use crate::lookup::previous;
 use crate::rule::Rule;
 use reel::Reel;
+
+// `Admits t →` stays a premise here: the functions take any reel, and a type for admitted traces alone would ask that of their callers
 
 /// Takes in the event at a position, if there is one, and all before it in its thread.
 fn take_in<R: Reel>(cut: &mut Cut, reel: &R, position: usize)
@@ -20,25 +23,15 @@ fn take_in<R: Reel>(cut: &mut Cut, reel: &R, position: usize)
 }
 
 /// The cut with the events at the seeds, and all before them in their threads.
-fn with_seeds<R: Reel>(reel: &R, start: Cut, seeds: &[usize]) -> Cut
-    ensures { let t = R.Reel.events reel.now in result.bounds ≡ fold (taken_in t) start.bounds seeds.now }
+fn with_seeds<R: Reel, I: Iterator<Item = usize> + Drop>(reel: &R, start: Cut, seeds: I) -> Cut
+    requires can { I.can_next seeds }
+    requires ends { IsFinite (I.remaining seeds) }
+    ensures { let t = R.Reel.events reel.now in
+        ((ss : List ℕ) × Drains I.next_gives seeds ss × (result.bounds ≡ fold (taken_in t) start.bounds ss)) }
 {
     let mut cut = start;
     for seed in seeds {
-        take_in(&mut cut, reel, *seed);
-    }
-    cut
-}
-
-/// The cut with the previous events of some events, and all before these in their threads.
-fn with_previous<R: Reel>(reel: &R, start: Cut, events: &[usize]) -> Cut
-    ensures { let t = R.Reel.events reel.now in result.bounds ≡ fold (taken_in t) start.bounds (previous_events t events.now) }
-{
-    let mut cut = start;
-    for event in events {
-        if let Some(seed) = previous(reel, *event) {
-            take_in(&mut cut, reel, seed);
-        }
+        take_in(&mut cut, reel, seed);
     }
     cut
 }
@@ -57,12 +50,15 @@ fn grown<R: Reel, S: Rule<R>>(rule: &S, reel: &R, start: Cut) -> Cut
     cut
 }
 
+// four calls, of seeds or of the events after them, from nothing or from a cut on, and a loop that takes rule and reel as they do: one call
+// with options, or a struct of rule and reel, would be no plainer
+
 /// The closure of the seeds, from a cut on that has only events that the seeds reach.
 pub fn closure_from<R: Reel, S: Rule<R>>(rule: &S, reel: &R, start: Cut, seeds: &[usize]) -> Cut
     ensures { let t = R.Reel.events reel.now in (Admits t → SeedsWithin t seeds.now
         → AllReached S.Rule.wants t seeds.now (held t start.bounds) → Closes S.Rule.wants t seeds.now result.bounds) }
 {
-    grown(rule, reel, with_seeds(reel, start, seeds))
+    grown(rule, reel, with_seeds(reel, start, seeds.iter().copied()))
 }
 
 /// The closure of the seeds.
@@ -84,7 +80,8 @@ pub fn closure_before_from<R: Reel, S: Rule<R>>(
         → AllReached S.Rule.wants t (previous_events t events.now) (held t start.bounds)
         → Closes S.Rule.wants t (previous_events t events.now) result.bounds) }
 {
-    grown(rule, reel, with_previous(reel, start, events))
+    let seeds = events.iter().filter_map(|event| previous(reel, *event));
+    grown(rule, reel, with_seeds(reel, start, seeds))
 }
 
 /// The closure of the previous events of some events.

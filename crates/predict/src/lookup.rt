@@ -13,30 +13,32 @@ use trace::kind::Kind;
 fn is_of_thread_at<R: Reel>(reel: &R, position: usize, thread: u8) -> bool
     ensures { let t = R.Reel.events reel.now in result ≡ fits_here (of_thread thread) (slice_get t position) }
 {
-    match reel.event(position) {
-        Some(event) => event.thread == thread,
-        None => false,
-    }
+    reel.event(position)
+        .is_some_and(|event| event.thread == thread)
 }
 
 /// Whether there is a write to the variable at the position.
+// not one function with `is_acquire_at`, over a kind: both contracts would be of a third definition beside `writes` and `acquires`, no plainer
 pub fn is_write_at<R: Reel>(reel: &R, position: usize, variable: u16) -> bool
     ensures { let t = R.Reel.events reel.now in result ≡ fits_here (writes variable) (slice_get t position) }
 {
-    match reel.event(position) {
-        Some(event) => event.kind == Kind::Write && event.subject == variable,
-        None => false,
-    }
+    reel.event(position).is_some_and(|event| event.kind == Kind::Write && event.subject == variable)
 }
 
 /// Whether there is an acquire of the lock at the position.
 pub fn is_acquire_at<R: Reel>(reel: &R, position: usize, lock: u16) -> bool
     ensures { let t = R.Reel.events reel.now in result ≡ fits_here (acquires lock) (slice_get t position) }
 {
-    match reel.event(position) {
-        Some(event) => event.kind == Kind::Acquire && event.subject == lock,
-        None => false,
-    }
+    reel.event(position).is_some_and(|event| event.kind == Kind::Acquire && event.subject == lock)
+}
+
+/// Whether there is a release of the lock by the thread at the position.
+fn is_release_at<R: Reel>(reel: &R, position: usize, lock: u16, thread: u8) -> bool
+    ensures { let t = R.Reel.events reel.now in result ≡ fits_here (releases lock thread) (slice_get t position) }
+{
+    reel.event(position).is_some_and(|event| {
+        event.kind == Kind::Release && event.subject == lock && event.thread == thread
+    })
 }
 
 /// The latest earlier event of the thread of the event at a position.
@@ -44,40 +46,21 @@ pub fn previous<R: Reel>(reel: &R, position: usize) -> Option<usize>
     ensures { let t = R.Reel.events reel.now in result ≡ previous t position }
 {
     let event = reel.event(position)?;
-    for k in (0..position).rev() {
-        if is_of_thread_at(reel, k, event.thread) {
-            return Some(k);
-        }
-    }
-    None
+    (0..position)
+        .rev()
+        .find(|earlier| is_of_thread_at(reel, *earlier, event.thread))
 }
 
 /// The latest earlier write to the variable of the read at a position.
 pub fn last_write<R: Reel>(reel: &R, position: usize) -> Option<usize>
     ensures { let t = R.Reel.events reel.now in result ≡ last_write t position }
 {
-    let read = reel.event(position)?;
-    if read.kind != Kind::Read {
-        return None;
-    }
-    for k in (0..position).rev() {
-        if is_write_at(reel, k, read.subject) {
-            return Some(k);
-        }
-    }
-    None
-}
-
-/// Whether there is a release of the lock by the thread at the position.
-fn is_release_at<R: Reel>(reel: &R, position: usize, lock: u16, thread: u8) -> bool
-    ensures { let t = R.Reel.events reel.now in result ≡ fits_here (releases lock thread) (slice_get t position) }
-{
-    match reel.event(position) {
-        Some(event) => event.kind == Kind::Release
-            && event.subject == lock
-            && event.thread == thread,
-        None => false,
-    }
+    let read = reel
+        .event(position)
+        .filter(|event| event.kind == Kind::Read)?;
+    (0..position)
+        .rev()
+        .find(|earlier| is_write_at(reel, *earlier, read.subject))
 }
 
 /// The first release after a position of the lock of the event there, by its thread.
@@ -85,31 +68,26 @@ pub(crate) fn release_of<R: Reel>(reel: &R, position: usize) -> Option<usize>
     ensures { let t = R.Reel.events reel.now in result ≡ release_of t position }
 {
     let acquire = reel.event(position)?;
-    let next = position + 1;
-    for k in next..reel.count() {
-        if is_release_at(reel, k, acquire.subject, acquire.thread) {
-            return Some(k);
-        }
-    }
-    None
+    (position + 1..reel.count()).find(|later| is_release_at(
+        reel,
+        *later,
+        acquire.subject,
+        acquire.thread,
+    ))
 }
 
 /// Whether there is an event at the position, and the cut has it.
 pub fn is_inside<R: Reel>(reel: &R, cut: &Cut, position: usize) -> bool
     ensures { let t = R.Reel.events reel.now in result ≡ held t cut.now.bounds position }
 {
-    match reel.event(position) {
-        Some(event) => cut.holds(position, &event),
-        None => false,
-    }
+    reel.event(position)
+        .is_some_and(|event| cut.holds(position, &event))
 }
 
 /// Whether there is an event at the position, and the cut does not have it.
 pub fn is_outside<R: Reel>(reel: &R, cut: &Cut, position: usize) -> bool
     ensures { let t = R.Reel.events reel.now in result ≡ lacks t cut.now.bounds position }
 {
-    match reel.event(position) {
-        Some(event) => !cut.holds(position, &event),
-        None => false,
-    }
+    reel.event(position)
+        .is_some_and(|event| !cut.holds(position, &event))
 }

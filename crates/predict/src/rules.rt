@@ -18,10 +18,7 @@ impl<R: Reel> Rule<R> for SyncRule {
     ghost lawful = { sync_laws };
 
     fn missing(&self, reel: &R, cut: &Cut) -> Option<usize> {
-        match missing_write(reel, cut) {
-            Some(write) => Some(write),
-            None => missing_release(reel, cut),
-        }
+        missing_write(reel, cut).or_else(|| missing_release(reel, cut))
     }
 }
 
@@ -49,9 +46,8 @@ impl<R: Reel> Rule<R> for SchedulableRule {
     ghost lawful = { schedulable_laws };
 
     fn missing(&self, reel: &R, cut: &Cut) -> Option<usize> {
-        match missing_earlier_release(reel, cut) {
-            Some(release) => Some(release),
-            None => missing_write(reel, cut),
-        }
+        HappensBeforeRule {}
+            .missing(reel, cut)
+            .or_else(|| missing_write(reel, cut))
     }
 }

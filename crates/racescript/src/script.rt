@@ -1,6 +1,6 @@
 //! Reads a script: one call a line, words separated by blanks. Empty lines and lines that begin with `#` are skipped.
 use answer::verdict::RacePair;
-use anyhow::anyhow;
+use anyhow::{Context, anyhow, bail, ensure};
 use run::Request;
 use std::alloc::Global;
 use std::str::SplitWhitespace;
@@ -8,76 +8,79 @@ use std::str::SplitWhitespace;
 /// The base of the bytes in a script.
 const HEXADECIMAL: u32 = 16;
 
-/// The bytes that the words stand for.
-fn bytes(heap: Global, words: SplitWhitespace<'_>) -> anyhow::Result<Vec<u8>> {
-    let mut bytes = Vec::new(heap);
-    for word in words {
-        bytes.push(u8::from_str_radix(word, HEXADECIMAL)?)?;
+/// The arguments of a call: the words of its line that are still to be read.
+#[derive(Drop)]
+struct Arguments<'a> {
+    heap: Global,
+    words: SplitWhitespace<'a>,
+}
+
+impl Arguments<'_> {
+    /// The bytes that all of them stand for.
+    fn bytes(self) -> anyhow::Result<Vec<u8>> {
+        self.words
+            .map(|word| -> anyhow::Result<u8> { Ok(u8::from_str_radix(word, HEXADECIMAL)?) })
+            .try_collect(self.heap)
     }
-    Ok(bytes)
-}
 
-/// The next word, which is a number.
-fn number(words: &mut SplitWhitespace<'_>) -> anyhow::Result<usize> {
-    let Some(word) = words.next() else {
-        return Err(anyhow!("a number is missing"));
-    };
-    Ok(word.parse::<usize>()?)
-}
-
-/// The last word, which is a number.
-fn last_number(mut words: SplitWhitespace<'_>) -> anyhow::Result<usize> {
-    let last = number(&mut words)?;
-    if words.next().is_some() {
-        return Err(anyhow!("there are too many words"));
+    /// The next one, which is a number.
+    fn number(&mut self) -> anyhow::Result<usize> {
+        let word = self.words.next().context("a number is missing")?;
+        Ok(word.parse()?)
     }
-    Ok(last)
+
+    /// The last one, which is a number.
+    fn last_number(mut self) -> anyhow::Result<usize> {
+        let last = self.number()?;
+        ensure!(self.words.next().is_none(), "there are too many words");
+        Ok(last)
+    }
+
+    /// A buffer with as many entries as the last one says, each like the given one.
+    fn buffer<T: Copy>(self, entry: T) -> anyhow::Result<Vec<T>> {
+        let heap = self.heap;
+        Ok(vec![in heap; entry; self.last_number()?]?)
+    }
 }
 
-/// The call with this name; its arguments are the words.
-fn request(heap: Global, name: &str, mut words: SplitWhitespace<'_>) -> anyhow::Result<Request> {
-    match name {
-        "enter" => Ok(Request::Enter(bytes(heap, words)?)),
-        "load" => Ok(Request::Load(bytes(heap, words)?)),
-        "judge" => {
-            let p = number(&mut words)?;
-            Ok(Request::Judge(p, last_number(words)?))
-        }
-        "witness" => {
-            let p = number(&mut words)?;
-            let q = number(&mut words)?;
-            Ok(Request::Witness(p, q, vec![in heap; 0u16; last_number(words)?]?))
-        }
-        "partners" => {
-            let q = number(&mut words)?;
-            Ok(Request::Partners(q, vec![in heap; 0u16; last_number(words)?]?))
-        }
-        "sweep" => {
-            let none = RacePair {
-                first: 0,
-                second: 0,
-            };
-            Ok(Request::Sweep(vec![in heap; none; last_number(words)?]?))
-        }
-        _ => Err(anyhow!("there is no such call")),
+/// The call with this name.
+fn call(name: &str, mut arguments: Arguments<'_>) -> anyhow::Result<Request> {
+    Ok(match name {
+        "enter" => Request::Enter(arguments.bytes()?),
+        "load" => Request::Load(arguments.bytes()?),
+        "judge" => Request::Judge(arguments.number()?, arguments.last_number()?),
+        "witness" => Request::Witness(
+            arguments.number()?,
+            arguments.number()?,
+            arguments.buffer(0u16)?,
+        ),
+        "partners" => Request::Partners(arguments.number()?, arguments.buffer(0u16)?),
+        "sweep" => Request::Sweep(arguments.buffer(RacePair {
+            first: 0,
+            second: 0,
+        })?),
+        _ => bail!("there is no such call"),
+    })
+}
+
+/// The call of a line, if it has one.
+fn call_of(heap: Global, line: &str) -> anyhow::Result<Option<Request>> {
+    let mut words = line.split_whitespace();
+    match words.next() {
+        Some(name) if !line.starts_with('#') => Ok(Some(call(name, Arguments { heap, words })?)),
+        _ => Ok(None),
     }
 }
 
 /// The calls of a script. A line that is no call is named in the error.
 pub(crate) fn requests(heap: Global, script: &str) -> anyhow::Result<Vec<Request>> {
-    let mut requests = Vec::new(heap);
-    for (index, line) in script.lines().enumerate() {
-        let mut words = line.split_whitespace();
-        let Some(name) = words.next() else {
-            continue;
-        };
-        if line.starts_with('#') {
-            continue;
-        }
-        match request(heap, name, words) {
-            Ok(request) => requests.push(request)?,
-            Err(error) => return Err(anyhow!(format!(in heap; "line {}: {error}", index + 1)?)),
-        }
-    }
-    Ok(requests)
+    script
+        .lines()
+        .enumerate()
+        .filter_map(|(index, line)| {
+            call_of(heap, line)
+                .map_err(|error| anyhow!("line {}: {error}", index + 1))
+                .transpose()
+        })
+        .try_collect(heap)
 }

@@ -3,3 +3,4 @@ pub mod Reels
 pub mod Stored
 pub mod Hosts
 pub mod Boards
+pub mod Left

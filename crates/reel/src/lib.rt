@@ -5,10 +5,14 @@ ghost use Rattle.std.specs.Prelude.{◌≡◌, ℕ, ◌≤◌, List, [], length}
 ghost use Rattle.std.specs.List.{slice_get};
 ghost use Rattle.trace.specs.declared.event.Event.{Event};
 ghost use Rattle.reel.specs.Reels.{reel_number, Taken};
+ghost use Rattle.reel.specs.Passing.{left_of};
 
+use events::Events;
 use trace::event::Event;
+use trace::fault::Fault;
 
 pub mod board;
+pub mod events;
 pub mod host;
 #[cfg(test)]
 mod tests;
@@ -20,11 +24,10 @@ pub enum ReelFault {
     Full,
 }
 
-impl ReelFault {
-    /// The number of the refusal.
-    pub fn number(self) -> u8
-        ensures { result ≡ reel_number self }
-    {
+impl Fault for ReelFault {
+    ghost number = { reel_number };
+
+    fn number(self) -> u8 {
         match self {
             ReelFault::Full => 7,
         }
@@ -63,4 +66,16 @@ pub trait Reel {
     fn wipe(&mut self)
         ensures events { events self.new ≡ [] }
         ensures same { room self.new ≡ room self.old };
+
+    /// The events, from the first on.
+    final fn iter(&self) -> Events<'_, Self>
+    where
+        Self: Sized,
+        ensures { left_of events result ≡ events self.now }
+    {
+        Events {
+            reel: self,
+            next: 0,
+        }
+    }
 }

@@ -1,14 +1,16 @@
 -- The list of positions stays a sync-preserving correct reordering with just those positions more that may come next.
-use Rattle.std.proofs.Common.{◌≡◌, ℕ, ◌<◌, ◌↔◌, List, [], ◌∷◌, ◌++◌, sym, subst, ⊎_elim, arith}
+use Rattle.std.proofs.Common.{◌≡◌, ◌≢◌, ℕ, true, ◌<◌, ◌↔◌, List, [], ◌∷◌, ◌++◌, sym, subst, ⊎_elim, arith}
 use mathlib.Core.List.Memᴰ
 use mathlib.Core.List.{Memᴰ}
+use mathlib.Core.Bool.{Bool-set}
 use Rattle.std.proofs.lemmas.Bool.{cases_eq}
+use Rattle.std.proofs.Math.Logic.{∥∥₁_elim}
 use Rattle.trace.specs.declared.event.Event.{Event}
 use Rattle.trace.specs.declared.kind.Kind.TheVariants.{Read, Acquire}
 use Rattle.trace.specs.Traces.{At, EarlierInThread, Previous, LastWrite}
 use Rattle.trace.specs.Reorderings.{LatestWrite, Correct, SyncPreserving, Enabled}
 use Rattle.trace.proofs.Events.{at_same, earlier_between}
-use Rattle.trace.proofs.Places.{Stands, stands, is_member, of_front}
+use Rattle.trace.proofs.Places.{Stands, stands, is_member, of_front, members, member_in, in_member}
 use Rattle.trace.proofs.Lookups.{previous_from}
 use Rattle.trace.proofs.Picked.{picked_push, allowed_at}
 use Rattle.reorder.specs.Comes.{Reorders, Agrees, Comes}
@@ -16,18 +18,20 @@ use Rattle.reorder.proofs.Members.{push_cases, no_place, Place, place}
 use Rattle.reorder.proofs.Members.Place.{last, within}
 
 module _ (t : List Event) where
-  -- after a correct reordering, an event is enabled if it is new and its previous event is in
-  pub enabled_from : (xs : List ℕ) (k : ℕ) → Correct t xs → (Memᴰ k xs → ⊥) → ((d : ℕ) → Previous t k d → Memᴰ d xs) → Enabled t xs k
-  enabled_from xs k ok new before = record { outside = new; ready = ready }
+  -- after a reordering, an event is enabled if it is new and its previous event is in
+  pub enabled_from : (xs : List ℕ) (k : ℕ) → ∥ Reorders t xs ∥₁ → (Memᴰ k xs → ⊥) → ((d : ℕ) → Previous t k d → Memᴰ d xs)
+      → Enabled t xs k
+  enabled_from xs k old new before = record { outside = new; ready = ready }
     where
       ready : (d : ℕ) → EarlierInThread t d k → Memᴰ d xs
       ready d h =
           let (p, previous, b) = previous_from t d k h in
           let i = before p previous in
           let s = stands i in
+          let between : (p ≢ d) → Reorders t xs → Memᴰ d xs = λ n r.
+          of_front s (r.correct.thread_prefix s.front s.back d p s.split (earlier_between t d p k h previous.earlier (omega arith))) in
           ⊎_elim (λ (q : p ≡ d). subst (λ (m : ℕ). Memᴰ m xs) q i)
-          (λ n. of_front s (ok.thread_prefix s.front s.back d p s.split (earlier_between t d p k h previous.earlier (omega arith))))
-          (cases_eq p d)
+          (λ n. in_member d xs (∥∥₁_elim old (Bool-set (members xs d) true) (λ r. member_in (between n r)))) (cases_eq p d)
 
   -- the empty list is a sync-preserving correct reordering
   pub reorders_none : Reorders t []

@@ -1,31 +1,55 @@
--- The members of a list of positions, as a loop goes through it, and the places in a list with one position more at its end.
-use Rattle.std.proofs.Common.{◌≡◌, ℕ, ◌+◌, ◌<◌, ◌≤◌, ◌⊎◌, List, [], ◌∷◌, ◌++◌, length, get_or, take, drop, sym, refl, ap, ◌∙◌, subst, inl, inr, ⊎_elim, arith, length-append, take-append-drop}
+-- The members of a list of positions, as a test goes through them, and the places in a list with one position more at its end.
+use Rattle.std.proofs.Common.{◌≡◌, ℕ, suc, ◌+◌, ◌<◌, Bool, true, false, eqb, ◌↔◌, ◌⊎◌, List, [], ◌∷◌, ◌++◌, length, get_or, take, drop, sym, refl, ap, ◌∙◌, subst, inl, inr, ⊎_elim, arith, length-append, take-append-drop}
 use mathlib.Core.List.Memᴰ
 use mathlib.Core.List.{Memᴰ}
-use Rattle.std.proofs.lemmas.List.{take_more, take_all, drop_more}
+use Rattle.std.specs.Bool.{MatchBool}
+use Rattle.std.specs.List.{list_any, list_all, AllWithin, HoldsAt, Contains}
+use Rattle.std.proofs.lemmas.Bool.{false≢true, eqb-true}
+use Rattle.std.proofs.lemmas.List.{drop_more}
+use Rattle.std.proofs.lemmas.List.Elements.{All-contains}
+use Rattle.std.proofs.lemmas.List.Sums.{AllPass-from_list_all, list_all-from_AllPass}
+use Rattle.std.proofs.lemmas.Map.Views.{Contains-from_any, list_any-from_Contains}
+use Rattle.std.proofs.lemmas.Cmp.{nat_eq_equiv}
 use Rattle.trace.proofs.Places.{Stands, at_split, is_member}
 
 -- an index is a place in the list
-abbrev pub at_index : (xs : List ℕ) (i : ℕ) → i < length xs → Stands (get_or xs i 0) xs
-at_index xs i b = at_split (take i xs) (drop (i + 1) xs) (sym (take-append-drop i xs) ∙ ap (λ ys. take i xs ++ ys) (drop_more xs i 0 b))
+abbrev pub at_index : (xs : List ℕ) (i d : ℕ) → i < length xs → Stands (get_or xs i d) xs
+at_index xs i d b = at_split (take i xs) (drop (i + 1) xs) (sym (take-append-drop i xs) ∙ ap (λ ys. take i xs ++ ys) (drop_more xs i d b))
 
 -- what stands at an index is a member
 pub in_list : (xs : List ℕ) (i : ℕ) → i < length xs → Memᴰ (get_or xs i 0) xs
-in_list xs i b = is_member (at_index xs i b)
+in_list xs i b = is_member (at_index xs i 0 b)
+
+-- and a member stands at an index
+has_index : {m : ℕ} {xs : List ℕ} → Memᴰ m xs → Contains xs m
+has_index (Memᴰ.head e) = (0, omega arith, sym e)
+has_index (Memᴰ.tail i) = let (k, b, is) = has_index i in (suc k, omega arith, is)
 
 -- a member of a list with one position more
 pub push_cases : {m k : ℕ} (xs : List ℕ) → Memᴰ m (xs ++ (k ∷ [])) → Memᴰ m xs ⊎ (m ≡ k)
 push_cases xs i = ⊎_elim inl (λ j. inr (Memᴰ.eq_of_singleton j)) (Memᴰ.append_cases xs i)
 
--- what holds of the members so far and of the next holds of them all
-pub each_more : (P : ℕ → Type 0) (xs : List ℕ) (i : ℕ) → i < length xs → ((m : ℕ) → Memᴰ m (take i xs) → P m) → P (get_or xs i 0) → (m : ℕ)
-    → Memᴰ m (take (i + 1) xs) → P m
-each_more P xs i b old new m j =
-    ⊎_elim (old m) (λ (e : m ≡ get_or xs i 0). subst P (sym e) new) (push_cases (take i xs) (subst (Memᴰ m) (take_more xs i 0 b) j))
+-- some member equals k just if k is a member
+pub has_member : (k : ℕ) (xs : List ℕ) → (list_any (eqb k) xs ≡ true) ↔ Memᴰ k xs
+has_member k xs = (
+  λ q. let (i, b, is) = Contains-from_any (λ x y. eqb-true x y) k xs q in subst (λ m. Memᴰ m xs) is (is_member (at_index xs i k b)),
+  λ i. list_any-from_Contains nat_eq_equiv k xs (has_index i),
+)
 
--- and at the end of the loop of each member
-pub each_all : (P : ℕ → Type 0) (xs : List ℕ) (i : ℕ) → length xs ≤ i → ((m : ℕ) → Memᴰ m (take i xs) → P m) → (m : ℕ) → Memᴰ m xs → P m
-each_all P xs i b old m j = old m (subst (Memᴰ m) (sym (take_all i xs b)) j)
+-- a test that tells of each position whether P holds passes each member just if P holds of each
+pub each_passes : (test : ℕ → Bool) (P : ℕ → Type 0) → ((m : ℕ) → (test m ≡ true) ↔ P m) → (xs : List ℕ)
+    → (list_all test xs ≡ true) ↔ ((m : ℕ) → Memᴰ m xs → P m)
+each_passes test P tells xs = (
+  λ q m i. (tells m).0 (All-contains (λ k. test k ≡ true) xs m (AllPass-from_list_all test xs q) (has_index i)),
+  λ all. list_all-from_AllPass test xs (λ k d b. (tells (get_or xs k d)).1 (all (get_or xs k d) (is_member (at_index xs k d b)))),
+)
+
+-- an answer by cases on whether P holds of each member is whether it does
+pub each_answered : (P : ℕ → Type 0) (xs : List ℕ) (r : Bool)
+    → MatchBool r (AllWithin P xs 0 (length xs)) ((k : ℕ) × (k < length xs) × HoldsAt (λ m. P m → ⊥) xs k)
+    → (r ≡ true) ↔ ((m : ℕ) → Memᴰ m xs → P m)
+each_answered P xs true all = (λ q m i. All-contains P xs m (λ k d. all k d (omega arith)) (has_index i), λ each. refl)
+each_answered P xs false (k, b, fails) = (λ q. absurd (false≢true q), λ each. absurd (fails 0 (each (get_or xs k 0) (in_list xs k b))))
 
 -- the empty list has no place
 pub no_place : (xs ys : List ℕ) (k : ℕ) → [] ≡ xs ++ (k ∷ ys) → ⊥

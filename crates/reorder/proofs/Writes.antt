@@ -1,10 +1,14 @@
 -- The latest write to a variable among the positions of a list, as the list gets longer, and the acquires of a lock among them.
-use Rattle.std.proofs.Common.{◌≡◌, ℕ, true, false, ◌↔◌, List, [], ◌∷◌, ◌++◌, Some, sym, refl, ap, ◌∙◌, subst, ⊎_elim, append_assoc}
+use Rattle.std.proofs.Common.{◌≡◌, ℕ, Bool, true, false, cond, not, ◌||◌, nat_lt, ◌↔◌, List, [], ◌∷◌, ◌++◌, reverse, Option, Some, sym, refl, ap, ◌∙◌, subst, ⊎_elim, append_assoc, arith}
+use mathlib.Core.Logic.Iff
 use mathlib.Core.List.Memᴰ
 use mathlib.Core.List.{Memᴰ}
-use Rattle.std.specs.List.{slice_get}
+use Rattle.std.specs.List.{slice_get, find}
+use Rattle.std.proofs.lemmas.Bool.{cases_Bool, or_cases, or_left, or_right, not-true, not_from_false, ltb-true, lt-ltb}
+use Rattle.std.proofs.lemmas.List.{reverse-reverse}
+use Rattle.std.proofs.lemmas.Grind.{reverse_onto}
 use Rattle.trace.specs.declared.event.Event.{Event}
-use Rattle.trace.specs.declared.kind.Kind.TheVariants.{Write, Acquire}
+use Rattle.trace.specs.declared.kind.Kind.TheVariants.{Write}
 use Rattle.trace.specs.Traces.{At}
 use Rattle.trace.specs.Lookups.{fits_here, writes}
 use Rattle.trace.specs.Reorderings.{LatestWrite}
@@ -12,17 +16,18 @@ use Rattle.trace.proofs.Lookups.{is_write, as_write}
 use Rattle.predict.specs.Parts.{acquires}
 use Rattle.predict.proofs.Inside.{tested, untested}
 use Rattle.predict.proofs.LockParts.{is_acquire, as_acquire}
+use Rattle.reorder.specs.Comes.{AcquireBefore}
 use Rattle.reorder.proofs.Members.{push_cases, no_place, Place, place}
 use Rattle.reorder.proofs.Members.Place.{last, within}
 
 module _ (t : List Event) (x : ℕ) where
   -- among no positions there is none
-  pub no_latest_write : (w : ℕ) → LatestWrite t [] x w → ⊥
+  no_latest_write : (w : ℕ) → LatestWrite t [] x w → ⊥
   no_latest_write w l = no_place l.front l.back w l.stands
 
   module _ (xs : List ℕ) (k : ℕ) where
     -- a write at the end is the latest
-    pub latest_write_here : true ≡ fits_here (writes x) (slice_get t k) → (w : ℕ) → (Some k ≡ Some w) ↔ LatestWrite t (xs ++ (k ∷ [])) x w
+    latest_write_here : true ≡ fits_here (writes x) (slice_get t k) → (w : ℕ) → (Some k ≡ Some w) ↔ LatestWrite t (xs ++ (k ∷ [])) x w
     latest_write_here h w = (λ q. subst (LatestWrite t (xs ++ (k ∷ [])) x) (cc) new, λ l. only l (place xs k l.front w l.back l.stands))
       where
         new : LatestWrite t (xs ++ (k ∷ [])) x k
@@ -47,7 +52,7 @@ module _ (t : List Event) (x : ℕ) where
             new.same_variable)
 
     -- another event at the end leaves it
-    pub latest_write_skip : false ≡ fits_here (writes x) (slice_get t k) → (w : ℕ) → LatestWrite t xs x w ↔ LatestWrite t (xs ++ (k ∷ [])) x w
+    latest_write_skip : false ≡ fits_here (writes x) (slice_get t k) → (w : ℕ) → LatestWrite t xs x w ↔ LatestWrite t (xs ++ (k ∷ [])) x w
     latest_write_skip h w = (longer, λ l. shorter l (place xs k l.front w l.back l.stands))
       where
         no_write : (m : ℕ) (e : Event) → m ≡ k → At t m e → e.kind ≡ Write → e.subject ≡ x → ⊥
@@ -78,12 +83,36 @@ module _ (t : List Event) (x : ℕ) where
           none_later = λ m e i. l.none_later m e (subst (Memᴰ m) (sym q) (Memᴰ.append_left (k ∷ []) i));
         }
 
-  -- the test of a position tells whether it is an acquire of the lock
-  pub acquire_at : (k : ℕ) → true ≡ fits_here (acquires x) (slice_get t k) → (e : Event) × At t k e × (e.kind ≡ Acquire) × (e.subject ≡ x)
-  acquire_at k h =
-      let (e, i, does) = tested (acquires x) (slice_get t k) (sym h) in
-      let (kind, lock) = is_acquire e x does in
-      (e, i, kind, lock)
+  -- so the first write to it from the end is the latest
+  from_the_end : (ys : List ℕ) (w : ℕ) → (find (λ k. fits_here (writes x) (slice_get t k)) ys ≡ Some w) ↔ LatestWrite t (reverse ys) x w
+  from_the_end [] w = (λ q. absurd (grind arith), λ l. absurd (no_latest_write w l))
+  from_the_end (k ∷ ys) w = rw (reverse_onto ys k []) (of_test (fits_here (writes x) (slice_get t k)) refl (from_the_end ys w))
+    where
+      rest : Option ℕ
+      rest = find (λ m. fits_here (writes x) (slice_get t m)) ys
 
-  pub no_acquire_at : (k : ℕ) (e : Event) → false ≡ fits_here (acquires x) (slice_get t k) → At t k e → e.kind ≡ Acquire → e.subject ≡ x → ⊥
-  no_acquire_at k e h i a b = untested (acquires x) t k e (sym h) i (as_acquire e x a b)
+      of_test : (b : Bool) → fits_here (writes x) (slice_get t k) ≡ b → (rest ≡ Some w) ↔ LatestWrite t (reverse ys) x w
+          → (cond (fits_here (writes x) (slice_get t k)) (Some k) rest ≡ Some w) ↔ LatestWrite t (reverse ys ++ (k ∷ [])) x w
+      of_test true h further = rw h (latest_write_here (reverse ys) k (sym h) w)
+      of_test false h further = rw h (Iff.trans further (latest_write_skip (reverse ys) k (sym h) w))
+
+  pub latest_found : (o : Option ℕ) (xs : List ℕ) → o ≡ find (λ k. fits_here (writes x) (slice_get t k)) (reverse xs) → (w : ℕ)
+      → (o ≡ Some w) ↔ LatestWrite t xs x w
+  latest_found o xs is w = rw is (rw reverse-reverse at (from_the_end (reverse xs) w))
+
+-- the test of a position tells whether it is before k, if it is an acquire of the lock
+pub acquire_before : (t : List Event) (k l a : ℕ) → ((nat_lt a k || not (fits_here (acquires l) (slice_get t a))) ≡ true) ↔ AcquireBefore t k l a
+acquire_before t k l a = (there, back)
+  where
+    acquire : Bool
+    acquire = fits_here (acquires l) (slice_get t a)
+
+    there : (nat_lt a k || not acquire) ≡ true → AcquireBefore t k l a
+    there q e i kind lock = ⊎_elim (ltb-true a k) (λ n. absurd (untested (acquires l) t a e (not-true acquire n) i (as_acquire e l kind lock)))
+        (or_cases (nat_lt a k) (not acquire) q)
+
+    back : AcquireBefore t k l a → (nat_lt a k || not acquire) ≡ true
+    back before = ⊎_elim (λ h. let (e, i, does) = tested (acquires l) (slice_get t a) h in
+        let (kind, lock) = is_acquire e l does in
+        or_left (nat_lt a k) (not acquire) (lt-ltb a k (before e i kind lock)))
+        (λ h. or_right (nat_lt a k) (not acquire) (not_from_false acquire h)) (cases_Bool acquire)

@@ -1,5 +1,5 @@
 -- When a position may come next after a list of positions that is a sync-preserving correct reordering.
-use Rattle.std.specs.Prelude.{◌≡◌, ℕ, ◌<◌, Bool, true, ◌↔◌, List, [], ◌∷◌, ◌++◌}
+use Rattle.std.specs.Prelude.{◌≡◌, ℕ, ◌<◌, ◌↔◌, List, [], ◌∷◌, ◌++◌, Option, Some, IsSome}
 use mathlib.Core.List.{Memᴰ}
 use Rattle.trace.specs.declared.event.Event.{Event}
 use Rattle.trace.specs.declared.kind.Kind.TheVariants.{Read, Acquire}
@@ -35,7 +35,7 @@ pub record Comes (t : List Event) (xs : List ℕ) (k : ℕ) : Type 0 where
   pub agrees : Agrees t xs k event
   pub allowed : Allowed (holders_after (picked t xs)) event
 
--- the answer whether k may come next after xs, and the table then has the holders after it
-pub record Answered (t : List Event) (xs : List ℕ) (k : ℕ) (r : Bool) (table : LockTable) : Type 0 where
-  pub right : (r ≡ true) ↔ Comes t xs k
-  pub told : r ≡ true → Tells table (picked t (xs ++ (k ∷ [])))
+-- the answer is a table just if k may come next after xs, and the table then has the holders after it
+pub record Answered (t : List Event) (xs : List ℕ) (k : ℕ) (r : Option LockTable) : Type 0 where
+  pub right : IsSome r ↔ Comes t xs k
+  pub told : (table : LockTable) → r ≡ Some table → Tells table (picked t (xs ++ (k ∷ [])))

@@ -1,8 +1,9 @@
 //! Decides whether a list of positions is a sync-preserving correct reordering of a trace.
-ghost use Rattle.std.specs.Prelude.{◌≡◌, ℕ, true, ◌↔◌, Some};
+ghost use Rattle.std.specs.Prelude.{◌≡◌, ℕ, true, ◌↔◌, Some, IsSome, IfSome};
+ghost use Rattle.std.proofs.Props.{props};
 ghost use mathlib.Core.List.{Memᴰ};
 ghost use Rattle.trace.specs.Traces.{Previous};
-ghost use Rattle.trace.specs.Reorderings.{picked, LatestWrite, Correct, Enabled, Leaves};
+ghost use Rattle.trace.specs.Reorderings.{picked, LatestWrite, Enabled, Leaves};
 ghost use Rattle.trace.specs.Locks.{Tells};
 ghost use Rattle.reorder.specs.Comes.{Reorders, AcquiredBefore, Agrees, Answered};
 
@@ -12,117 +13,118 @@ use trace::event::Event;
 use trace::kind::Kind;
 use trace::locks::LockTable;
 
-/// Whether the position stands in the list.
-fn has(list: &[u16], position: usize) -> bool
-    ensures { (result ≡ true) ↔ Memᴰ position list.now }
-{
-    for k in list {
-        if *k as usize == position {
-            return true;
+/// A list of positions that is a sync-preserving correct reordering of the reel's trace, and who holds each lock after its events.
+#[derive(Drop)]
+struct Reordering<'a, R: Reel> {
+    reel: &'a R,
+    list: &'a [u16],
+    locks: LockTable,
+    ghost reorders: { ∥ Reorders (R.Reel.events reel.now) list.now ∥₁ },
+    ghost told: { Tells locks (picked (R.Reel.events reel.now) list.now) } by { Prim.hlevel props },
+}
+
+impl<'a, R: Reel> Reordering<'a, R> {
+    /// The list as a reordering of the reel's trace, if it is one.
+    fn of(reel: &'a R, list: &'a [u16]) -> Option<Self>
+        ensures decided { let t = R.Reel.events reel.now in IsSome result ↔ Reorders t list.now }
+        ensures same { IfSome result (λ r. (r.reel.now ≡ reel.now) × (r.list.now ≡ list.now)) }
+    {
+        let mut locks = LockTable::new();
+        for (i, position) in list.iter().enumerate() {
+            let so_far = Reordering {
+                reel,
+                list: &list[..i],
+                locks,
+            };
+            locks = so_far.locks_with(usize::from(*position))?;
+        }
+        Some(Reordering { reel, list, locks })
+    }
+
+    /// Whether the position stands in the list.
+    fn has(&self, position: usize) -> bool
+        ensures { (result ≡ true) ↔ Memᴰ position self.now.list.now }
+    {
+        self.list.iter().any(|k| position == usize::from(*k))
+    }
+
+    /// Whether the previous event of the position, if there is one, stands in the list.
+    fn has_previous(&self, position: usize) -> bool
+        ensures { let t = R.Reel.events self.now.reel.now in (result ≡ true)
+            ↔ ((d : ℕ) → Previous t position d → Memᴰ d self.now.list.now) }
+    {
+        // tried as `is_none_or`: what its closure answers is not found from the contract inferred of it, and the proof does not close
+        match previous(self.reel, position) {
+            Some(earlier) => self.has(earlier),
+            None => true,
         }
     }
-    false
-}
 
-/// Whether the previous event of the position, if there is one, stands in the list.
-fn has_previous<R: Reel>(reel: &R, list: &[u16], position: usize) -> bool
-    ensures { let t = R.Reel.events reel.now in (result ≡ true) ↔ ((d : ℕ) → Previous t position d → Memᴰ d list.now) }
-{
-    match previous(reel, position) {
-        Some(earlier) => has(list, earlier),
-        None => true,
+    /// Whether the position is enabled after the list.
+    fn is_enabled(&self, position: usize) -> bool
+        ensures { let t = R.Reel.events self.now.reel.now in (result ≡ true) ↔ Enabled t self.now.list.now position }
+    {
+        !self.has(position) && self.has_previous(position)
     }
-}
 
-/// Whether the position is enabled after the list, which is a correct reordering.
-fn is_enabled<R: Reel>(reel: &R, list: &[u16], position: usize) -> bool
-    ensures { let t = R.Reel.events reel.now in (Correct t list.now → (result ≡ true) ↔ Enabled t list.now position) }
-{
-    !has(list, position) && has_previous(reel, list, position)
-}
+    /// Whether each of the events is enabled after the list.
+    fn leaves_enabled(&self, events: &[usize]) -> bool
+        ensures { let t = R.Reel.events self.now.reel.now in (result ≡ true)
+            ↔ ((e : ℕ) → Memᴰ e events.now → Enabled t self.now.list.now e) }
+    {
+        events.iter().all(|event| self.is_enabled(*event))
+    }
 
-/// The latest write to the variable in the list.
-fn latest_write_in<R: Reel>(reel: &R, list: &[u16], variable: u16) -> Option<usize>
-    ensures { let t = R.Reel.events reel.now in ((w : ℕ) → (result ≡ Some w) ↔ LatestWrite t list.now variable w) }
-{
-    let mut latest = None;
-    for k in list {
-        let position = *k as usize;
-        if is_write_at(reel, position, variable) {
-            latest = Some(position);
+    /// The latest write to the variable in the list.
+    fn latest_write(&self, variable: u16) -> Option<usize>
+        ensures { let t = R.Reel.events self.now.reel.now in ((w : ℕ) → (result ≡ Some w) ↔ LatestWrite t self.now.list.now variable w) }
+    {
+        self.list
+            .iter()
+            .rev()
+            .map(|k| usize::from(*k))
+            .find(|position| is_write_at(self.reel, *position, variable))
+    }
+
+    /// Whether the acquires of the lock in the list stand before the position.
+    fn acquired_before(&self, position: usize, lock: u16) -> bool
+        ensures { let t = R.Reel.events self.now.reel.now in (result ≡ true) ↔ AcquiredBefore t self.now.list.now position lock }
+    {
+        self.list.iter().all(|k| {
+            let acquire = usize::from(*k);
+            acquire < position || !is_acquire_at(self.reel, acquire, lock)
+        })
+    }
+
+    /// Whether the event at the position agrees with the trace after the list: a read has its last write there, and an acquire comes after the
+    /// earlier acquires of its lock.
+    fn agrees(&self, position: usize, event: &Event) -> bool
+        ensures { let t = R.Reel.events self.now.reel.now in (result ≡ true) ↔ Agrees t self.now.list.now position event.now }
+    {
+        match event.kind {
+            Kind::Read => self.latest_write(event.subject) == last_write(self.reel, position),
+            Kind::Acquire => self.acquired_before(position, event.subject),
+            Kind::Write | Kind::Release => true,
         }
     }
-    latest
-}
 
-/// Whether the acquires of the lock in the list stand before the position.
-fn acquired_before<R: Reel>(reel: &R, list: &[u16], position: usize, lock: u16) -> bool
-    ensures { let t = R.Reel.events reel.now in (result ≡ true) ↔ AcquiredBefore t list.now position lock }
-{
-    for k in list {
-        let acquire = *k as usize;
-        if position <= acquire && is_acquire_at(reel, acquire, lock) {
-            return false;
+    /// Who holds each lock after the event at the position too, if it may come next.
+    fn locks_with(&self, position: usize) -> Option<LockTable>
+        ensures { let t = R.Reel.events self.now.reel.now in Answered t self.now.list.now position result }
+    {
+        let event = self.reel.event(position)?;
+        if !self.is_enabled(position) || !self.agrees(position, &event) {
+            return None;
         }
+        let mut locks = self.locks;
+        locks.turn(&event).ok()?;
+        Some(locks)
     }
-    true
-}
-
-/// Whether the event at the position agrees with the trace after the list: a read has its last write there, and an acquire comes after the
-/// earlier acquires of its lock.
-fn agrees<R: Reel>(reel: &R, list: &[u16], position: usize, event: &Event) -> bool
-    ensures { let t = R.Reel.events reel.now in (result ≡ true) ↔ Agrees t list.now position event.now }
-{
-    match event.kind {
-        Kind::Read => latest_write_in(reel, list, event.subject) == last_write(reel, position),
-        Kind::Acquire => acquired_before(reel, list, position, event.subject),
-        Kind::Write | Kind::Release => true,
-    }
-}
-
-/// Whether the position may come next after the list, which is a correct reordering whose events the table has taken. The table then takes
-/// its event too.
-fn may_come<R: Reel>(reel: &R, locks: &mut LockTable, list: &[u16], position: usize) -> bool
-    ensures { let t = R.Reel.events reel.now in (Correct t list.now → Tells locks.old (picked t list.now)
-        → Answered t list.now position result locks.new) }
-{
-    match reel.event(position) {
-        Some(event) if is_enabled(reel, list, position) => {
-            agrees(reel, list, position, &event) && locks.turn(&event).is_ok()
-        }
-        _ => false,
-    }
-}
-
-/// Whether the list is a sync-preserving correct reordering of the trace.
-fn is_reordering<R: Reel>(reel: &R, list: &[u16]) -> bool
-    ensures { let t = R.Reel.events reel.now in (result ≡ true) ↔ Reorders t list.now }
-{
-    let mut locks = LockTable::new();
-    for (i, k) in list.iter().enumerate() {
-        if !may_come(reel, &mut locks, &list[..i], *k as usize) {
-            return false;
-        }
-    }
-    true
-}
-
-/// Whether each of the events is enabled after the list, which is a correct reordering.
-fn are_enabled<R: Reel>(reel: &R, events: &[usize], list: &[u16]) -> bool
-    ensures { let t = R.Reel.events reel.now in (Correct t list.now
-        → (result ≡ true) ↔ ((e : ℕ) → Memᴰ e events.now → Enabled t list.now e)) }
-{
-    for event in events {
-        if !is_enabled(reel, list, *event) {
-            return false;
-        }
-    }
-    true
 }
 
 /// Whether the list is a sync-preserving correct reordering of the reel's trace that leaves the events enabled.
 pub fn leaves<R: Reel>(reel: &R, events: &[usize], list: &[u16]) -> bool
     ensures { let t = R.Reel.events reel.now in (result ≡ true) ↔ Leaves t events.now list.now }
 {
-    is_reordering(reel, list) && are_enabled(reel, events, list)
+    Reordering::of(reel, list).is_some_and(|reordering| reordering.leaves_enabled(events))
 }

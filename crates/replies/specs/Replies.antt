@@ -40,10 +40,12 @@ position_entry k = codes " " ++ decimal k
 abbrev pub pair_entry : RacePair → List ℕ
 pair_entry x = codes " " ++ (decimal x.first ++ (codes "-" ++ decimal x.second))
 
--- the line of a call that refuses a record
+-- what a call says of a record that it refuses, and its line
+abbrev pub refused_entry : Refusal → List ℕ
+refused_entry r = codes "refused " ++ (decimal r.number ++ (codes " " ++ (layer_name r.layer ++ (codes " " ++ decimal r.index))))
+
 abbrev pub entry_refused_line : List ℕ → Refusal → List ℕ
-entry_refused_line call r =
-    call ++ (codes " refused " ++ (decimal r.number ++ (codes " " ++ (layer_name r.layer ++ (codes " " ++ (decimal r.index ++ codes "\n"))))))
+entry_refused_line call r = call ++ (codes " " ++ (refused_entry r ++ codes "\n"))
 
 -- the line of a call that answers how many entries it has for its buffer, which holds these
 abbrev pub counted_line : List ℕ → ℕ → List ℕ → List ℕ
@@ -52,6 +54,11 @@ counted_line call count entries = call ++ (codes " " ++ (decimal count ++ (codes
 -- the line of such a call that is refused
 abbrev pub refused_line : List ℕ → ℕ → List ℕ → List ℕ
 refused_line call number entries = call ++ (codes " refused " ++ (decimal number ++ (codes " buffer" ++ (entries ++ codes "\n"))))
+
+-- the line of a call that fills a buffer: the word of the call, its answer or the number of its refusal, and the entries
+abbrev pub buffer_line : {F A : Type 0} → (F → ℕ) → (A → List ℕ) → List ℕ → Result ℕ F → List A → List ℕ
+buffer_line number entry call (Ok count) buffer = counted_line call count (flat_map entry buffer)
+buffer_line number entry call (Err f) buffer = refused_line call (number f) (flat_map entry buffer)
 
 -- the lines of the six calls
 abbrev pub enter_line : Result (Unit {0}) EntryRefusal → List ℕ
@@ -67,16 +74,13 @@ judge_line (Ok verdict) = codes "judge " ++ (verdict_name verdict ++ codes "\n")
 judge_line (Err f) = codes "judge refused " ++ (decimal (pair_number f) ++ codes "\n")
 
 abbrev pub witness_line : Result ℕ WitnessFault → List ℕ → List ℕ
-witness_line (Ok count) buffer = counted_line (codes "witness") count (flat_map position_entry buffer)
-witness_line (Err f) buffer = refused_line (codes "witness") (witness_number f) (flat_map position_entry buffer)
+witness_line r buffer = buffer_line witness_number position_entry (codes "witness") r buffer
 
 abbrev pub partners_line : Result ℕ PartnersFault → List ℕ → List ℕ
-partners_line (Ok count) buffer = counted_line (codes "partners") count (flat_map position_entry buffer)
-partners_line (Err f) buffer = refused_line (codes "partners") (partners_number f) (flat_map position_entry buffer)
+partners_line r buffer = buffer_line partners_number position_entry (codes "partners") r buffer
 
 abbrev pub sweep_line : Result ℕ BufferFault → List RacePair → List ℕ
-sweep_line (Ok count) buffer = counted_line (codes "sweep") count (flat_map pair_entry buffer)
-sweep_line (Err f) buffer = refused_line (codes "sweep") (buffer_number f) (flat_map pair_entry buffer)
+sweep_line r buffer = buffer_line buffer_number pair_entry (codes "sweep") r buffer
 
 -- the line of a reply
 abbrev pub reply_line : Reply → List ℕ

@@ -1,36 +1,41 @@
 //! The lines of the replies of a run.
 #![tactic(auto)]
 
-ghost use Rattle.std.specs.Prelude.{◌≡◌, ℕ, List, IfOk, string_bytes};
+ghost use Rattle.std.specs.Prelude.{◌≡◌, ℕ, List, IfOk, Some, vec_items, string_bytes};
+ghost use Rattle.std.specs.Fmt.{DisplaysOnOk};
 ghost use Rattle.std.specs.List.{flat_map};
 ghost use Rattle.reel.specs.Stored.{room_in};
 ghost use Rattle.answer.specs.Faults.{refusal};
-ghost use Rattle.replies.specs.Replies.{layer_name, verdict_name, position_entry, pair_entry, entry_refused_line, counted_line, refused_line, enter_line, load_line, judge_line, witness_line, partners_line, sweep_line, reply_line, reply_lines, Played};
+ghost use Rattle.replies.specs.Replies.{layer_name, verdict_name, position_entry, pair_entry, refused_entry, buffer_line, reply_line, reply_lines, Played};
 
-use answer::collector::BufferFault;
-use answer::fault::{EntryRefusal, Layer, PairFault};
-use answer::verdict::{PartnersFault, RacePair, Verdict, WitnessFault};
+use answer::fault::{EntryRefusal, Layer, Layered};
+use answer::verdict::{RacePair, Verdict};
 use reel::Reel;
 use reel::host::HostReel;
 use run::{Reply, Request, perform};
 use std::alloc::{AllocError, Global};
+use std::fmt;
+use std::fmt::Display;
+use trace::fault::Fault;
 
-/// What has a text of its own.
+/// What has a text of its own here.
+// Not `Display`: an impl of it for a type of another crate is refused (`orphan-impl`), and a wrapper of each entry, with a trait that makes it
+// of the entry, would be no plainer.
 trait Text {
     ghost text: { Self → List ℕ };
 
-    /// The text.
-    fn to_text(&self, heap: Global) -> Result<String, AllocError>
-        ensures { IfOk result (λ s. string_bytes s ≡ text self.now) };
+    /// Writes the text.
+    fn write_to<W: fmt::Write>(&self, f: &mut fmt::Formatter<W>) -> fmt::Result
+        ensures { DisplaysOnOk W.write_str_gives f.old result (Some (text self.now)) f.new };
 }
 
 /// A position in a buffer.
 impl Text for u16 {
     ghost text = { position_entry };
 
-    fn to_text(&self, heap: Global) -> Result<String, AllocError> {
+    fn write_to<W: fmt::Write>(&self, f: &mut fmt::Formatter<W>) -> fmt::Result {
         let position = *self;
-        format!(in heap; " {position}")
+        write!(f, " {position}")
     }
 }
 
@@ -38,180 +43,147 @@ impl Text for u16 {
 impl Text for RacePair {
     ghost text = { pair_entry };
 
-    fn to_text(&self, heap: Global) -> Result<String, AllocError> {
+    fn write_to<W: fmt::Write>(&self, f: &mut fmt::Formatter<W>) -> fmt::Result {
         let first = self.first;
         let second = self.second;
-        format!(in heap; " {first}-{second}")
+        write!(f, " {first}-{second}")
     }
 }
 
 /// The texts of some items, one after another.
-fn texts<T: Text>(heap: Global, items: &[T]) -> Result<String, AllocError>
-    ensures { IfOk result (λ s. string_bytes s ≡ flat_map T.Text.text items.now) }
-{
-    let mut text = String::new(heap);
-    for item in items {
-        let more = item.to_text(heap)?;
-        text.push_str(more.as_str())?;
+#[derive(Drop)]
+struct Texts<'a, T>(&'a [T]);
+
+impl<T: Text> fmt::Display for Texts<'_, T> {
+    ghost output = { λ t. Some (flat_map T.Text.text t.0.now) };
+
+    fn fmt<W: fmt::Write>(&self, f: &mut fmt::Formatter<W>) -> fmt::Result {
+        for item in self.0 {
+            item.write_to(f)?;
+        }
+        Ok(())
     }
-    Ok(text)
 }
 
 /// The name of a layer.
-fn layer_name(layer: Layer) -> &'static str
-    ensures { result.now ≡ layer_name layer }
-{
-    match layer {
-        Layer::Record => "record",
-        Layer::Trace => "trace",
-        Layer::Reel => "reel",
-        Layer::Pair => "pair",
-        Layer::Verdict => "verdict",
-        Layer::Buffer => "buffer",
+#[derive(Clone, Copy)]
+struct LayerName(Layer);
+
+impl fmt::Display for LayerName {
+    ghost output = { λ n. Some (layer_name n.0) };
+
+    fn fmt<W: fmt::Write>(&self, f: &mut fmt::Formatter<W>) -> fmt::Result {
+        f.write_str(match self.0 {
+            Layer::Record => "record",
+            Layer::Trace => "trace",
+            Layer::Reel => "reel",
+            Layer::Pair => "pair",
+            Layer::Verdict => "verdict",
+            Layer::Buffer => "buffer",
+        })
     }
 }
 
 /// A verdict in words.
-fn verdict_name(verdict: Verdict) -> &'static str
-    ensures { result.now ≡ verdict_name verdict }
-{
-    match verdict {
-        Verdict::Race => "race",
-        Verdict::NoRace => "no race",
+#[derive(Clone, Copy)]
+struct VerdictName(Verdict);
+
+impl fmt::Display for VerdictName {
+    ghost output = { λ n. Some (verdict_name n.0) };
+
+    fn fmt<W: fmt::Write>(&self, f: &mut fmt::Formatter<W>) -> fmt::Result {
+        f.write_str(match self.0 {
+            Verdict::Race => "race",
+            Verdict::NoRace => "no race",
+        })
     }
 }
 
-/// The line of a call that refuses a record.
-fn entry_refused_line(
-    heap: Global,
-    call: &str,
-    refused: &EntryRefusal,
-) -> Result<String, AllocError>
-    ensures { IfOk result (λ s. string_bytes s ≡ entry_refused_line call.now (refusal refused.now)) }
-{
-    let number = refused.fault.number();
-    let layer = layer_name(refused.fault.layer());
-    let index = refused.index;
-    format!(in heap; "{call} refused {number} {layer} {index}\n")
-}
+/// What a call says of a record that it refuses.
+#[derive(Clone, Copy)]
+struct RefusedEntry(EntryRefusal);
 
-/// The line of a call that answers how many entries it has for its buffer.
-fn counted_line<T: Text>(
-    heap: Global,
-    call: &str,
-    count: usize,
-    buffer: &[T],
-) -> Result<String, AllocError>
-    ensures { IfOk result (λ s. string_bytes s ≡ counted_line call.now count (flat_map T.Text.text buffer.now)) }
-{
-    let entries = texts(heap, buffer)?;
-    let entries = entries.as_str();
-    format!(in heap; "{call} {count} buffer{entries}\n")
-}
+impl fmt::Display for RefusedEntry {
+    ghost output = { λ r. Some (refused_entry (refusal r.0)) };
 
-/// The line of such a call that is refused.
-fn refused_line<T: Text>(
-    heap: Global,
-    call: &str,
-    number: u8,
-    buffer: &[T],
-) -> Result<String, AllocError>
-    ensures { IfOk result (λ s. string_bytes s ≡ refused_line call.now number (flat_map T.Text.text buffer.now)) }
-{
-    let entries = texts(heap, buffer)?;
-    let entries = entries.as_str();
-    format!(in heap; "{call} refused {number} buffer{entries}\n")
-}
-
-/// The line of an Enter.
-fn enter_line(heap: Global, answer: Result<(), EntryRefusal>) -> Result<String, AllocError>
-    ensures { IfOk result (λ s. string_bytes s ≡ enter_line answer) }
-{
-    match answer {
-        Ok(()) => String::from_str(heap, "enter taken\n"),
-        Err(refused) => entry_refused_line(heap, "enter", &refused),
+    fn fmt<W: fmt::Write>(&self, f: &mut fmt::Formatter<W>) -> fmt::Result {
+        let number = self.0.fault.number();
+        let layer = LayerName(self.0.fault.layer());
+        let index = self.0.index;
+        write!(f, "refused {number} {layer} {index}")
     }
 }
 
-/// The line of a Load.
-fn load_line(heap: Global, answer: Result<usize, EntryRefusal>) -> Result<String, AllocError>
-    ensures { IfOk result (λ s. string_bytes s ≡ load_line answer) }
-{
-    match answer {
-        Ok(count) => format!(in heap; "load {count}\n"),
-        Err(refused) => entry_refused_line(heap, "load", &refused),
-    }
+/// The line of a call that answers how many entries it has for its buffer, or is refused.
+#[derive(Drop)]
+struct BufferLine<'a, F, T> {
+    call: &'static str,
+    answer: Result<usize, F>,
+    buffer: &'a [T],
 }
 
-/// The line of a Judge.
-fn judge_line(heap: Global, answer: Result<Verdict, PairFault>) -> Result<String, AllocError>
-    ensures { IfOk result (λ s. string_bytes s ≡ judge_line answer) }
-{
-    match answer {
-        Ok(verdict) => {
-            let verdict = verdict_name(verdict);
-            format!(in heap; "judge {verdict}\n")
-        }
-        Err(fault) => {
-            let number = fault.number();
-            format!(in heap; "judge refused {number}\n")
+impl<'a, F: Fault, T> BufferLine<'a, F, T> {
+    /// The line of the call with this answer and this buffer.
+    fn of(call: &'static str, answer: &Result<usize, F>, buffer: &'a Vec<T>) -> BufferLine<'a, F, T>
+        ensures call { result.call.now ≡ call.now }
+        ensures answer { result.answer ≡ answer.now }
+        ensures buffer { result.buffer.now ≡ vec_items buffer.now }
+    {
+        BufferLine {
+            call,
+            answer: *answer,
+            buffer: buffer.as_slice(),
         }
     }
 }
 
-/// The line of a Witness.
-fn witness_line(
-    heap: Global,
-    answer: Result<usize, WitnessFault>,
-    buffer: &[u16],
-) -> Result<String, AllocError>
-    ensures { IfOk result (λ s. string_bytes s ≡ witness_line answer buffer.now) }
-{
-    match answer {
-        Ok(count) => counted_line(heap, "witness", count, buffer),
-        Err(fault) => refused_line(heap, "witness", fault.number(), buffer),
-    }
-}
+impl<F: Fault, T: Text> fmt::Display for BufferLine<'_, F, T> {
+    ghost output = { λ l. Some (buffer_line F.Fault.number T.Text.text l.call.now l.answer l.buffer.now) };
 
-/// The line of a Partners.
-fn partners_line(
-    heap: Global,
-    answer: Result<usize, PartnersFault>,
-    buffer: &[u16],
-) -> Result<String, AllocError>
-    ensures { IfOk result (λ s. string_bytes s ≡ partners_line answer buffer.now) }
-{
-    match answer {
-        Ok(count) => counted_line(heap, "partners", count, buffer),
-        Err(fault) => refused_line(heap, "partners", fault.number(), buffer),
-    }
-}
-
-/// The line of a Sweep.
-fn sweep_line(
-    heap: Global,
-    answer: Result<usize, BufferFault>,
-    buffer: &[RacePair],
-) -> Result<String, AllocError>
-    ensures { IfOk result (λ s. string_bytes s ≡ sweep_line answer buffer.now) }
-{
-    match answer {
-        Ok(count) => counted_line(heap, "sweep", count, buffer),
-        Err(fault) => refused_line(heap, "sweep", fault.number(), buffer),
+    fn fmt<W: fmt::Write>(&self, f: &mut fmt::Formatter<W>) -> fmt::Result {
+        let call = self.call;
+        let entries = Texts(self.buffer);
+        match self.answer {
+            Ok(count) => writeln!(f, "{call} {count} buffer{entries}"),
+            Err(fault) => {
+                let number = fault.number();
+                writeln!(f, "{call} refused {number} buffer{entries}")
+            }
+        }
     }
 }
 
 /// The line of a reply.
-pub fn reply_line(heap: Global, reply: &Reply) -> Result<String, AllocError>
-    ensures { IfOk result (λ s. string_bytes s ≡ reply_line reply.now) }
-{
-    match reply {
-        Reply::Enter(answer) => enter_line(heap, *answer),
-        Reply::Load(answer) => load_line(heap, *answer),
-        Reply::Judge(answer) => judge_line(heap, *answer),
-        Reply::Witness(answer, buffer) => witness_line(heap, *answer, buffer.as_slice()),
-        Reply::Partners(answer, buffer) => partners_line(heap, *answer, buffer.as_slice()),
-        Reply::Sweep(answer, buffer) => sweep_line(heap, *answer, buffer.as_slice()),
+#[derive(Drop)]
+struct Line<'a>(&'a Reply);
+
+impl fmt::Display for Line<'_> {
+    ghost output = { λ l. Some (reply_line l.0.now) };
+
+    fn fmt<W: fmt::Write>(&self, f: &mut fmt::Formatter<W>) -> fmt::Result {
+        match self.0 {
+            Reply::Enter(Ok(())) => writeln!(f, "enter taken"),
+            Reply::Enter(Err(refused)) => {
+                let refused = RefusedEntry(*refused);
+                writeln!(f, "enter {refused}")
+            }
+            Reply::Load(Ok(count)) => writeln!(f, "load {count}"),
+            Reply::Load(Err(refused)) => {
+                let refused = RefusedEntry(*refused);
+                writeln!(f, "load {refused}")
+            }
+            Reply::Judge(Ok(verdict)) => {
+                let verdict = VerdictName(*verdict);
+                writeln!(f, "judge {verdict}")
+            }
+            Reply::Judge(Err(fault)) => {
+                let number = fault.number();
+                writeln!(f, "judge refused {number}")
+            }
+            Reply::Witness(answer, buffer) => BufferLine::of("witness", answer, buffer).fmt(f),
+            Reply::Partners(answer, buffer) => BufferLine::of("partners", answer, buffer).fmt(f),
+            Reply::Sweep(answer, buffer) => BufferLine::of("sweep", answer, buffer).fmt(f),
+        }
     }
 }
 
@@ -219,16 +191,23 @@ pub fn reply_line(heap: Global, reply: &Reply) -> Result<String, AllocError>
 impl Text for Reply {
     ghost text = { reply_line };
 
-    fn to_text(&self, heap: Global) -> Result<String, AllocError> {
-        reply_line(heap, self)
+    fn write_to<W: fmt::Write>(&self, f: &mut fmt::Formatter<W>) -> fmt::Result {
+        Line(self).fmt(f)
     }
+}
+
+/// The text of the line of a reply.
+pub fn reply_line(heap: Global, reply: &Reply) -> Result<String, AllocError>
+    ensures { IfOk result (λ s. string_bytes s ≡ reply_line reply.now) }
+{
+    Line(reply).to_string(heap)
 }
 
 /// The lines of replies, in their order.
 pub fn reply_lines(heap: Global, replies: &[Reply]) -> Result<String, AllocError>
     ensures { IfOk result (λ s. string_bytes s ≡ reply_lines replies.now) }
 {
-    texts(heap, replies)
+    Texts(replies).to_string(heap)
 }
 
 /// Performs the requests one after another on a session that is opened over the reel, and returns the lines of the replies.

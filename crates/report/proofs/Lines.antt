@@ -1,5 +1,5 @@
 -- The lines of the events, one line more at a time.
-use Rattle.std.proofs.Common.{◌≡◌, ℕ, zero, suc, ◌+◌, ◌<◌, List, [], ◌∷◌, ◌++◌, length, get_or, take, Some, None, sym, refl, ap, ◌∙◌, append_assoc, append-nil, arith, length-take}
+use Rattle.std.proofs.Common.{◌≡◌, ℕ, suc, ◌+◌, ◌<◌, List, [], ◌∷◌, ◌++◌, length, get_or, take, Some, sym, refl, ap, ◌∙◌, append_assoc, append-nil, arith, length-take}
 use Rattle.std.specs.List.{slice_get}
 use Rattle.std.proofs.lemmas.List.{take_more}
 use Rattle.std.proofs.lemmas.Option.{slice_get-get_or}
@@ -14,7 +14,7 @@ lines_push k (f ∷ t) e =
     rw n (ap (λ (bs : List ℕ). event_line k f ++ bs) (lines_push (k + 1) t e) ∙ sym (append_assoc (event_line k f) (event_lines (k + 1) t) _))
 
 -- the lines of the first events, with that of the next one
-pub lines_more : (t : List Event) (k : ℕ) (e : Event) → k < length t → slice_get t k ≡ Some e
+pub lines_more : (t : List Event) (k : ℕ) (e : Event) → k < length t → Some e ≡ slice_get t k
     → event_lines 0 (take k t) ++ event_line k e ≡ event_lines 0 (take (k + 1) t)
 lines_more t k e inside is =
     let there = slice_get-get_or t k e inside in
@@ -23,9 +23,3 @@ lines_more t k e inside is =
     let front : take (k + 1) t ≡ take k t ++ (e ∷ []) = take_more t k e inside ∙ rw e_is refl in
     let zero : 0 + length (take k t) ≡ k = omega arith in
     sym (ap (event_lines 0) front ∙ lines_push 0 (take k t) e ∙ rw zero refl)
-
--- a position of a trace has an event
-pub no_gap : (t : List Event) (k : ℕ) → k < length t → slice_get t k ≡ None → ⊥
-no_gap [] k inside is = omega arith
-no_gap (e ∷ t) zero inside is = let z : ◌≡◌ {A = ℕ} 0 1 = cc in omega arith
-no_gap (e ∷ t) (suc k) inside is = no_gap t k (omega arith) is

@@ -28,7 +28,7 @@ module _ (t : List Event) where
     partner_asked i inside = let p = get_or ps i 0 in asked t p q (sym ((partners.exact p).0 (in_list ps i inside)).0)
 
     -- so where q has none, there are no partners
-    pub lines_nowhere : slice_get t q ≡ None → RaceLines t (map (λ p. pair p q) ps) []
+    pub lines_nowhere : None ≡ slice_get t q → RaceLines t (map (λ p. pair p q) ps) []
     lines_nowhere missing = by ps refl
       where
         by : (xs : List ℕ) → ps ≡ xs → RaceLines t (map (λ p. pair p q) xs) []
@@ -40,7 +40,7 @@ module _ (t : List Event) where
             absurd (omega arith)
 
     -- the next partner has an event
-    pub partner_event : (i p : ℕ) → i < length ps → p ≡ get_or ps i 0 → slice_get t p ≡ None → ⊥
+    pub partner_event : (i p : ℕ) → i < length ps → p ≡ get_or ps i 0 → None ≡ slice_get t p → ⊥
     partner_event i p inside is missing =
         let a = partner_asked i inside in
         let first = rw (← is) at a.first_is in
@@ -48,7 +48,7 @@ module _ (t : List Event) where
         omega arith
 
     -- its line is one more
-    pub partner_more : {text : List ℕ} (i p : ℕ) (e f : Event) → i < length ps → p ≡ get_or ps i 0 → slice_get t p ≡ Some e → slice_get t q ≡ Some f
+    pub partner_more : {text : List ℕ} (i p : ℕ) (e f : Event) → i < length ps → p ≡ get_or ps i 0 → Some e ≡ slice_get t p → Some f ≡ slice_get t q
         → RaceLines t (map (λ x. pair x q) (take i ps)) text → RaceLines t (map (λ x. pair x q) (take (i + 1) ps)) (text ++ race_line p q e f)
     partner_more i p e f inside is first second l =
-        rw (map_more (λ x. pair x q) ps i 0 inside, ← is) (lines_push p q e f l first second)
+        rw (map_more (λ x. pair x q) ps i 0 inside, ← is) (lines_push p q e f l (sym first) (sym second))

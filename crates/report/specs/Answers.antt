@@ -3,10 +3,10 @@ use Rattle.std.specs.Prelude.{◌≡◌, ℕ, Bool, true, false, List, [], ◌++
 use Rattle.trace.specs.declared.event.Event.{Event}
 use Rattle.trace.specs.Faults.{told}
 use Rattle.answer.specs.declared.fault.PairFault.{PairFault}
-use Rattle.answer.specs.Faults.{Refusal, pair_number}
+use Rattle.answer.specs.Faults.{pair_number}
 use Rattle.session.specs.Entries.{enter_all}
 use Rattle.session.specs.Questions.{Answers, Unordered, Schedulable, Vetted}
-use Rattle.report.specs.Texts.{refusal_line}
+use Rattle.report.specs.Texts.{After}
 
 -- an answer in a word, or the number of the refusal
 abbrev pub answer_text : Result Bool ℕ → List ℕ
@@ -30,9 +30,5 @@ pub record Answered (t : List Event) (p q : ℕ) (list text : List ℕ) : Type 0
       (answer_text (told pair_number vet))
 
 -- the text where the records of an input are entered first: the line of the first refusal, or the answers on their events
-abbrev pub AnsweredAfter : Result ℕ Refusal → List Event → ℕ → ℕ → List ℕ → List ℕ → Type 0
-AnsweredAfter (Ok n) t p q list text = Answered t p q list text
-AnsweredAfter (Err r) t p q list text = text ≡ refusal_line r
-
 abbrev pub AnsweredOf : ℕ → List ℕ → ℕ → ℕ → List ℕ → List ℕ → Type 0
-AnsweredOf room input p q list text = let o = enter_all room [] input in AnsweredAfter o.answer o.events p q list text
+AnsweredOf room input p q list text = let o = enter_all room [] input in After (λ t s. Answered t p q list s) o.answer o.events text

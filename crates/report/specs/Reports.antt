@@ -1,12 +1,11 @@
 -- The text of the race report.
-use Rattle.std.specs.Prelude.{◌≡◌, ℕ, List, [], ◌∷◌, ◌++◌, map, length, Some, Ok, Err, codes, decimal, Result}
+use Rattle.std.specs.Prelude.{◌≡◌, ℕ, List, [], ◌∷◌, ◌++◌, map, length, Some, codes, decimal}
 use Rattle.std.specs.List.{slice_get}
 use Rattle.trace.specs.declared.event.Event.{Event}
 use Rattle.answer.specs.declared.verdict.RacePair.{RacePair}
-use Rattle.answer.specs.Faults.{Refusal}
 use Rattle.session.specs.Entries.{enter_all}
 use Rattle.session.specs.Races.{PartnersOf, pair, SweepOf}
-use Rattle.report.specs.Texts.{events_line, refusal_line}
+use Rattle.report.specs.Texts.{events_line, After}
 
 -- the line of the pair of p and q, where e and f are the events there
 abbrev pub race_line : ℕ → ℕ → Event → Event → List ℕ
@@ -38,9 +37,5 @@ pub record Reported (t : List Event) (text : List ℕ) : Type 0 where
   pub text_is : text ≡ events_line (length t) ++ races
 
 -- the report where the records of an input are entered first: the line of the first refusal, or the report of their events
-abbrev pub ReportedAfter : Result ℕ Refusal → List Event → List ℕ → Type 0
-ReportedAfter (Ok n) t text = Reported t text
-ReportedAfter (Err r) t text = text ≡ refusal_line r
-
 abbrev pub ReportOf : ℕ → List ℕ → List ℕ → Type 0
-ReportOf room input text = let o = enter_all room [] input in ReportedAfter o.answer o.events text
+ReportOf room input text = let o = enter_all room [] input in After Reported o.answer o.events text

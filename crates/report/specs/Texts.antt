@@ -1,5 +1,5 @@
 -- The texts that the programs print. Each line ends with a line feed, and numbers are decimal.
-use Rattle.std.specs.Prelude.{ℕ, ◌+◌, List, [], ◌∷◌, ◌++◌, length, Ok, Err, codes, decimal, Result}
+use Rattle.std.specs.Prelude.{◌≡◌, ℕ, ◌+◌, List, [], ◌∷◌, ◌++◌, length, Ok, Err, codes, decimal, Result}
 use Rattle.trace.specs.declared.event.Event.{Event}
 use Rattle.trace.specs.declared.kind.Kind.{Kind}
 use Rattle.trace.specs.declared.kind.Kind.TheVariants.{Read, Write, Acquire, Release}
@@ -35,6 +35,11 @@ listing t = event_lines 0 t ++ events_line (length t)
 -- the line of a refusal
 abbrev pub refusal_line : Refusal → List ℕ
 refusal_line r = codes "refused " ++ (decimal r.number ++ (codes " record " ++ (decimal r.index ++ codes "\n")))
+
+-- a text where the records of an input are entered first: the line of the first refusal, or what is said of their events
+abbrev pub After : (List Event → List ℕ → Type 0) → Result ℕ Refusal → List Event → List ℕ → Type 0
+After says (Ok n) t text = says t text
+After says (Err r) t text = text ≡ refusal_line r
 
 -- the listing of the events, if none was refused; else the line of the refusal
 abbrev pub listing_after : Result ℕ Refusal → List Event → List ℕ

@@ -4,3 +4,4 @@
 pub mod listing;
 pub mod questions;
 pub mod races;
+mod texts;

@@ -1,78 +1,140 @@
 //! The listing of a dump: a line for each event, then their number; or the line of the first refusal.
-ghost use Rattle.std.specs.Prelude.{◌≡◌, IfOk, string_bytes};
+ghost use Rattle.std.specs.Prelude.{◌≡◌, IfOk, Some, string_bytes};
 ghost use Rattle.reel.specs.Stored.{room_in};
 ghost use Rattle.answer.specs.Faults.{refusal};
 ghost use Rattle.report.specs.Texts.{deed, event_line, event_lines, events_line, listing, refusal_line, listing_of};
 
+use crate::texts::{SessionText, text_in, text_over};
 use answer::fault::EntryRefusal;
 use reel::Reel;
-use reel::host::HostReel;
 use session::session::Session;
 use std::alloc::{AllocError, Global};
+use std::fmt;
 use trace::event::Event;
+use trace::fault::Fault;
 use trace::kind::Kind;
 
 /// What an event of a kind does, and to what.
-fn deed_of(kind: Kind) -> &'static str
-    ensures { result.now ≡ deed kind }
-{
-    match kind {
-        Kind::Read => "reads variable",
-        Kind::Write => "writes variable",
-        Kind::Acquire => "acquires lock",
-        Kind::Release => "releases lock",
+#[derive(Clone, Copy)]
+struct Deed(Kind);
+
+impl fmt::Display for Deed {
+    ghost output = { λ d. Some (deed d.0) };
+
+    fn fmt<W: fmt::Write>(&self, f: &mut fmt::Formatter<W>) -> fmt::Result {
+        f.write_str(match self.0 {
+            Kind::Read => "reads variable",
+            Kind::Write => "writes variable",
+            Kind::Acquire => "acquires lock",
+            Kind::Release => "releases lock",
+        })
     }
 }
 
 /// The line of the event at a position.
-pub fn event_line(heap: Global, position: usize, event: &Event) -> Result<String, AllocError>
-    ensures { IfOk result (λ s. string_bytes s ≡ event_line position event.now) }
-{
-    let thread = event.thread;
-    let deed = deed_of(event.kind);
-    let subject = event.subject;
-    let site = event.site;
-    format!(in heap; "{position} thread {thread} {deed} {subject} site {site}\n")
+#[derive(Clone, Copy)]
+struct EventLine {
+    position: usize,
+    event: Event,
+}
+
+impl fmt::Display for EventLine {
+    ghost output = { λ l. Some (event_line l.position l.event) };
+
+    fn fmt<W: fmt::Write>(&self, f: &mut fmt::Formatter<W>) -> fmt::Result {
+        let position = self.position;
+        let thread = self.event.thread;
+        let deed = Deed(self.event.kind);
+        let subject = self.event.subject;
+        let site = self.event.site;
+        writeln!(f, "{position} thread {thread} {deed} {subject} site {site}")
+    }
 }
 
 /// The line with the number of events.
-pub fn events_line(heap: Global, count: usize) -> Result<String, AllocError>
-    ensures { IfOk result (λ s. string_bytes s ≡ events_line count) }
-{
-    format!(in heap; "events {count}\n")
+#[derive(Clone, Copy)]
+pub(crate) struct EventsLine(pub(crate) usize);
+
+impl fmt::Display for EventsLine {
+    ghost output = { λ l. Some (events_line l.0) };
+
+    fn fmt<W: fmt::Write>(&self, f: &mut fmt::Formatter<W>) -> fmt::Result {
+        let count = self.0;
+        writeln!(f, "events {count}")
+    }
 }
 
 /// The line of a refusal.
+#[derive(Clone, Copy)]
+struct RefusalLine(EntryRefusal);
+
+impl fmt::Display for RefusalLine {
+    ghost output = { λ l. Some (refusal_line (refusal l.0)) };
+
+    fn fmt<W: fmt::Write>(&self, f: &mut fmt::Formatter<W>) -> fmt::Result {
+        let number = self.0.fault.number();
+        let index = self.0.index;
+        writeln!(f, "refused {number} record {index}")
+    }
+}
+
+/// The text of the line of the event at a position.
+pub fn event_line(heap: Global, position: usize, event: &Event) -> Result<String, AllocError>
+    ensures { IfOk result (λ s. string_bytes s ≡ event_line position event.now) }
+{
+    let event = *event;
+    EventLine { position, event }.to_string(heap)
+}
+
+/// The text of the line with the number of events.
+pub fn events_line(heap: Global, count: usize) -> Result<String, AllocError>
+    ensures { IfOk result (λ s. string_bytes s ≡ events_line count) }
+{
+    EventsLine(count).to_string(heap)
+}
+
+/// The text of the line of a refusal.
 pub fn refusal_line(heap: Global, refused: &EntryRefusal) -> Result<String, AllocError>
     ensures { IfOk result (λ s. string_bytes s ≡ refusal_line (refusal refused.now)) }
 {
-    let number = refused.fault.number();
-    let index = refused.index;
-    format!(in heap; "refused {number} record {index}\n")
+    RefusalLine(*refused).to_string(heap)
 }
 
 /// The lines of a session's events.
-fn event_lines<R: Reel>(heap: Global, session: &Session<R>) -> Result<String, AllocError>
-    ensures { let t = R.Reel.events session.now.reel in IfOk result (λ s. string_bytes s ≡ event_lines 0 t) }
-{
-    let mut text = String::new(heap);
-    for position in 0..session.count() {
-        if let Some(event) = session.event(position) {
-            let line = event_line(heap, position, &event)?;
-            text.push_str(line.as_str())?;
+#[derive(Drop)]
+struct EventLines<'a, R: Reel>(&'a Session<R>);
+
+impl<R: Reel> fmt::Display for EventLines<'_, R> {
+    ghost output = { λ l. Some (event_lines 0 l.0.now.trace) };
+
+    fn fmt<W: fmt::Write>(&self, f: &mut fmt::Formatter<W>) -> fmt::Result {
+        for (position, event) in self.0.iter().enumerate() {
+            let line = EventLine { position, event };
+            write!(f, "{line}")?;
         }
+        Ok(())
     }
-    Ok(text)
 }
 
 /// The listing of a session's events.
 pub fn listing<R: Reel>(heap: Global, session: &Session<R>) -> Result<String, AllocError>
-    ensures { let t = R.Reel.events session.now.reel in IfOk result (λ s. string_bytes s ≡ listing t) }
+    ensures { IfOk result (λ s. string_bytes s ≡ listing session.now.trace) }
 {
-    let mut text = event_lines(heap, session)?;
-    let last = events_line(heap, session.count())?;
-    text.push_str(last.as_str())?;
-    Ok(text)
+    let lines = EventLines(session);
+    let last = EventsLine(session.count());
+    format!(in heap; "{lines}{last}")
+}
+
+/// The listing, as a text of a session.
+#[derive(Clone, Copy)]
+struct ListingText;
+
+impl SessionText for ListingText {
+    ghost Says = { λ _ t s. s ≡ listing t };
+
+    fn text<R: Reel>(&self, heap: Global, session: &Session<R>) -> Result<String, AllocError> {
+        listing(heap, session)
+    }
 }
 
 /// The listing of the records in `input`, which are kept in the reel, or the line of the first that is refused.
@@ -83,16 +145,12 @@ pub fn listing_over<R: Reel + Drop>(
 ) -> Result<String, AllocError>
     ensures { IfOk result (λ s. string_bytes s ≡ listing_of (R.Reel.room reel) input.now) }
 {
-    let mut session = Session::open(reel);
-    match session.enter_all(input) {
-        Ok(_) => listing(heap, &session),
-        Err(refused) => refusal_line(heap, &refused),
-    }
+    text_over(heap, reel, input, &ListingText)
 }
 
 /// The same over a host reel in the bytes `storage`.
 pub fn listing_of(heap: Global, storage: &mut [u8], input: &[u8]) -> Result<String, AllocError>
     ensures { IfOk result (λ s. string_bytes s ≡ listing_of (room_in storage.old) input.now) }
 {
-    listing_over(heap, HostReel::over(storage), input)
+    text_in(heap, storage, input, &ListingText)
 }

@@ -1,45 +1,62 @@
 //! The answers to the questions about two positions of a dump, a line each.
-ghost use Rattle.std.specs.Prelude.{◌≡◌, IfOk, string_bytes};
+ghost use Rattle.std.specs.Prelude.{IfOk, Some, string_bytes};
 ghost use Rattle.trace.specs.Faults.{told};
 ghost use Rattle.reel.specs.Stored.{room_in};
 ghost use Rattle.answer.specs.Faults.{pair_number};
-ghost use Rattle.session.specs.Entries.{Stands};
 ghost use Rattle.report.specs.Answers.{answer_text, three_lines, Answered, AnsweredOf};
 
-use crate::listing::refusal_line;
+use crate::texts::{SessionText, text_in, text_over};
 use answer::fault::PairFault;
 use reel::Reel;
-use reel::host::HostReel;
 use session::session::Session;
 use std::alloc::{AllocError, Global};
+use std::fmt;
+use trace::fault::Fault;
 
 /// An answer in a word, or the number of the refusal.
-fn answer_text(heap: Global, answer: Result<bool, PairFault>) -> Result<String, AllocError>
-    ensures { IfOk result (λ s. string_bytes s ≡ answer_text (told pair_number answer)) }
-{
-    match answer {
-        Ok(true) => String::from_str(heap, "yes"),
-        Ok(false) => String::from_str(heap, "no"),
-        Err(fault) => {
-            let number = fault.number();
-            format!(in heap; "refused {number}")
+#[derive(Clone, Copy)]
+struct Answer(Result<bool, PairFault>);
+
+impl fmt::Display for Answer {
+    ghost output = { λ a. Some (answer_text (told pair_number a.0)) };
+
+    fn fmt<W: fmt::Write>(&self, f: &mut fmt::Formatter<W>) -> fmt::Result {
+        match self.0 {
+            Ok(true) => f.write_str("yes"),
+            Ok(false) => f.write_str("no"),
+            Err(fault) => {
+                let number = fault.number();
+                write!(f, "refused {number}")
+            }
         }
     }
 }
 
 /// The three answers, a line each.
-fn answer_lines(
-    heap: Global,
-    unordered: &str,
-    schedulable: &str,
-    vet: &str,
-) -> Result<String, AllocError>
-    ensures { IfOk result (λ s. string_bytes s ≡ three_lines unordered.now schedulable.now vet.now) }
-{
-    format!(in heap; "unordered {unordered}\nschedulable {schedulable}\nvet {vet}\n")
+#[derive(Clone, Copy)]
+struct AnswerLines {
+    unordered: Answer,
+    schedulable: Answer,
+    vet: Answer,
+}
+
+impl fmt::Display for AnswerLines {
+    ghost output = { λ a. Some (three_lines (answer_text (told pair_number a.unordered.0))
+        (answer_text (told pair_number a.schedulable.0)) (answer_text (told pair_number a.vet.0))) };
+
+    fn fmt<W: fmt::Write>(&self, f: &mut fmt::Formatter<W>) -> fmt::Result {
+        let unordered = self.unordered;
+        let schedulable = self.schedulable;
+        let vet = self.vet;
+        writeln!(
+            f,
+            "unordered {unordered}\nschedulable {schedulable}\nvet {vet}"
+        )
+    }
 }
 
 /// The answers to Unordered, Schedulable and Vet.
+// The public functions take the positions and the list apart: a struct of them, as `AnswersText`, would be made by each caller, no plainer.
 pub fn answers<R: Reel>(
     heap: Global,
     session: &Session<R>,
@@ -47,13 +64,30 @@ pub fn answers<R: Reel>(
     q: usize,
     list: &[u16],
 ) -> Result<String, AllocError>
-    ensures { let t = R.Reel.events session.now.reel in (Stands session.now.locks t
-        → IfOk result (λ s. Answered t p q list.now (string_bytes s))) }
+    ensures { IfOk result (λ s. Answered session.now.trace p q list.now (string_bytes s)) }
 {
-    let unordered = answer_text(heap, session.unordered(p, q))?;
-    let schedulable = answer_text(heap, session.schedulable(p, q))?;
-    let vet = answer_text(heap, session.vet(p, q, list))?;
-    answer_lines(heap, unordered.as_str(), schedulable.as_str(), vet.as_str())
+    let lines = AnswerLines {
+        unordered: Answer(session.unordered(p, q)),
+        schedulable: Answer(session.schedulable(p, q)),
+        vet: Answer(session.vet(p, q, list)),
+    };
+    lines.to_string(heap)
+}
+
+/// The questions about two positions and a list, whose answers are a text of a session.
+#[derive(Clone, Copy)]
+struct AnswersText<'a> {
+    p: usize,
+    q: usize,
+    list: &'a [u16],
+}
+
+impl SessionText for AnswersText<'_> {
+    ghost Says = { λ it t s. Answered t it.p it.q it.list.now s };
+
+    fn text<R: Reel>(&self, heap: Global, session: &Session<R>) -> Result<String, AllocError> {
+        answers(heap, session, self.p, self.q, self.list)
+    }
 }
 
 /// The answers about the records in `input`, which are kept in the reel, or the line of the first that is refused.
@@ -67,11 +101,7 @@ pub fn answers_over<R: Reel + Drop>(
 ) -> Result<String, AllocError>
     ensures { IfOk result (λ s. AnsweredOf (R.Reel.room reel) input.now p q list.now (string_bytes s)) }
 {
-    let mut session = Session::open(reel);
-    match session.enter_all(input) {
-        Ok(_) => answers(heap, &session, p, q, list),
-        Err(refused) => refusal_line(heap, &refused),
-    }
+    text_over(heap, reel, input, &AnswersText { p, q, list })
 }
 
 /// The same over a host reel in the bytes `storage`.
@@ -85,5 +115,5 @@ pub fn answers_of(
 ) -> Result<String, AllocError>
     ensures { IfOk result (λ s. AnsweredOf (room_in storage.old) input.now p q list.now (string_bytes s)) }
 {
-    answers_over(heap, HostReel::over(storage), input, p, q, list)
+    text_in(heap, storage, input, &AnswersText { p, q, list })
 }

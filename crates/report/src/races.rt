@@ -1,18 +1,39 @@
 //! The race report of a dump: the number of its events and a line for each racing pair, or the line of the first refusal.
-ghost use Rattle.std.specs.Prelude.{◌≡◌, ◌≤◌, map, length, IfOk, string_bytes};
+ghost use Rattle.std.specs.Prelude.{◌≡◌, ◌≤◌, map, length, IfOk, Some, string_bytes};
 ghost use Rattle.reel.specs.Stored.{room_in};
-ghost use Rattle.session.specs.Entries.{Stands};
 ghost use Rattle.session.specs.Races.{PartnersOf, pair};
 ghost use Rattle.report.specs.Reports.{race_line, RaceLines, PartnerLines, SweepLines, Reported, ReportOf};
 
-use crate::listing::{events_line, refusal_line};
+use crate::listing::EventsLine;
+use crate::texts::{SessionText, text_in, text_over};
 use reel::Reel;
-use reel::host::HostReel;
 use session::session::Session;
 use std::alloc::{AllocError, Global};
+use std::fmt;
 use trace::event::Event;
 
 /// The line of the racing pair of p and q, where `first` and `second` are the events there.
+#[derive(Clone, Copy)]
+struct RaceLine {
+    p: usize,
+    q: usize,
+    first: Event,
+    second: Event,
+}
+
+impl fmt::Display for RaceLine {
+    ghost output = { λ l. Some (race_line l.p l.q l.first l.second) };
+
+    fn fmt<W: fmt::Write>(&self, f: &mut fmt::Formatter<W>) -> fmt::Result {
+        let p = self.p;
+        let q = self.q;
+        let earlier = self.first.site;
+        let later = self.second.site;
+        writeln!(f, "race {p} {q} sites {earlier} {later}")
+    }
+}
+
+/// The text of that line.
 pub fn race_line(
     heap: Global,
     p: usize,
@@ -22,9 +43,13 @@ pub fn race_line(
 ) -> Result<String, AllocError>
     ensures { IfOk result (λ s. string_bytes s ≡ race_line p q first.now second.now) }
 {
-    let earlier = first.site;
-    let later = second.site;
-    format!(in heap; "race {p} {q} sites {earlier} {later}\n")
+    let line = RaceLine {
+        p,
+        q,
+        first: *first,
+        second: *second,
+    };
+    line.to_string(heap)
 }
 
 /// The lines of the racing pairs of q with its partners.
@@ -34,7 +59,7 @@ fn pair_lines<R: Reel>(
     q: usize,
     partners: &[u16],
 ) -> Result<String, AllocError>
-    ensures { let t = R.Reel.events session.now.reel in (PartnersOf t q partners.now
+    ensures { let t = session.now.trace in (PartnersOf t q partners.now
         → IfOk result (λ s. RaceLines t (map (λ p. pair p q) partners.now) (string_bytes s))) }
 {
     let mut text = String::new(heap);
@@ -44,8 +69,13 @@ fn pair_lines<R: Reel>(
     for partner in partners {
         let p = usize::from(*partner);
         if let Some(first) = session.event(p) {
-            let line = race_line(heap, p, q, &first, &second)?;
-            text.push_str(line.as_str())?;
+            let line = RaceLine {
+                p,
+                q,
+                first,
+                second,
+            };
+            write!(text, "{line}")?;
         }
     }
     Ok(text)
@@ -58,9 +88,9 @@ fn partner_lines<R: Reel>(
     q: usize,
     buffer: &mut [u16],
 ) -> Result<String, AllocError>
-    ensures { let t = R.Reel.events session.now.reel in (Stands session.now.locks t → length t ≤ length buffer.old
-        → IfOk result (λ s. PartnerLines t q (string_bytes s))) }
+    ensures { let t = session.now.trace in (length t ≤ length buffer.old → IfOk result (λ s. PartnerLines t q (string_bytes s))) }
 {
+    // no `?`: the function fails by memory alone, and this refusal never comes, since q is a position and the buffer has a place for each partner
     let count = session.partners(q, buffer).unwrap_or(0);
     let partners = buffer.get(0..count).unwrap_or(&[]);
     pair_lines(heap, session, q, partners)
@@ -68,11 +98,12 @@ fn partner_lines<R: Reel>(
 
 /// The lines of a session's racing pairs, one later position after another.
 fn race_lines<R: Reel>(heap: Global, session: &Session<R>) -> Result<String, AllocError>
-    ensures { let t = R.Reel.events session.now.reel in (Stands session.now.locks t → IfOk result (λ s. SweepLines t (string_bytes s))) }
+    ensures { IfOk result (λ s. SweepLines session.now.trace (string_bytes s)) }
 {
     let mut text = String::new(heap);
     let count = session.count();
     let mut buffer = vec![in heap; 0u16; count]?;
+    // a range, since Partners is asked about each position by its number; a chain would change the text that it captures, no plainer
     for q in 0..count {
         let lines = partner_lines(heap, session, q, buffer.as_mut_slice())?;
         text.push_str(lines.as_str())?;
@@ -82,12 +113,23 @@ fn race_lines<R: Reel>(heap: Global, session: &Session<R>) -> Result<String, All
 
 /// The race report of a session's events.
 pub fn race_report<R: Reel>(heap: Global, session: &Session<R>) -> Result<String, AllocError>
-    ensures { let t = R.Reel.events session.now.reel in (Stands session.now.locks t → IfOk result (λ s. Reported t (string_bytes s))) }
+    ensures { IfOk result (λ s. Reported session.now.trace (string_bytes s)) }
 {
-    let mut text = events_line(heap, session.count())?;
+    let count = EventsLine(session.count());
     let lines = race_lines(heap, session)?;
-    text.push_str(lines.as_str())?;
-    Ok(text)
+    format!(in heap; "{count}{lines}")
+}
+
+/// The race report, as a text of a session.
+#[derive(Clone, Copy)]
+struct RaceReportText;
+
+impl SessionText for RaceReportText {
+    ghost Says = { λ _ t s. Reported t s };
+
+    fn text<R: Reel>(&self, heap: Global, session: &Session<R>) -> Result<String, AllocError> {
+        race_report(heap, session)
+    }
 }
 
 /// The race report of the records in `input`, which are kept in the reel, or the line of the first that is refused.
@@ -98,16 +140,12 @@ pub fn race_report_over<R: Reel + Drop>(
 ) -> Result<String, AllocError>
     ensures { IfOk result (λ s. ReportOf (R.Reel.room reel) input.now (string_bytes s)) }
 {
-    let mut session = Session::open(reel);
-    match session.enter_all(input) {
-        Ok(_) => race_report(heap, &session),
-        Err(refused) => refusal_line(heap, &refused),
-    }
+    text_over(heap, reel, input, &RaceReportText)
 }
 
 /// The same over a host reel in the bytes `storage`.
 pub fn race_report_of(heap: Global, storage: &mut [u8], input: &[u8]) -> Result<String, AllocError>
     ensures { IfOk result (λ s. ReportOf (room_in storage.old) input.now (string_bytes s)) }
 {
-    race_report_over(heap, HostReel::over(storage), input)
+    text_in(heap, storage, input, &RaceReportText)
 }

@@ -64,9 +64,9 @@ module _ (t u : List Event) where
     pub races_longer : Races t p q ↔ Races (t ++ u) p q
     races_longer =
         let c = one_closure in
-        let now-by = races_by t p q front below c.0 c.1 in
+        let now_by = races_by t p q front below c.0 c.1 in
         let then_by = races_by (t ++ u) p q admitted below c.0 c.2 in
-        (λ r. then_by.0 (now-by.1 r), λ r. now-by.0 (then_by.1 r))
+        (λ r. then_by.0 (now_by.1 r), λ r. now_by.0 (then_by.1 r))
 
     pub racing_longer : RacingPair t p q ↔ RacingPair (t ++ u) p q
     racing_longer =
@@ -97,8 +97,8 @@ ascending_same (x ∷ xs) (y ∷ ys) a b to from = ap₂ (λ (k : ℕ) (ks : Lis
 shown : (t : List Event) (p q : ℕ) → Admits t → p < q → (c : Positions) → Closure SyncWants t (previous_events t (p ∷ q ∷ [])) c → (ws : List ℕ) → Shows t p q ws
     → (k : ℕ) → Memᴰ k ws ↔ In k c
 shown t p q ok below c closure ws shows k =
-    let not-p = (races_by t p q ok below c closure).1 (ws, shows.leaves) in
-    let l = realized t (p ∷ q ∷ []) (previous_events t (p ∷ q ∷ [])) c ok (seeds_of t (p ∷ q ∷ [])) closure (apart t p q ok below c closure not-p) in (
+    let not_p = (races_by t p q ok below c closure).1 (ws, shows.leaves) in
+    let l = realized t (p ∷ q ∷ []) (previous_events t (p ∷ q ∷ [])) c ok (seeds_of t (p ∷ q ∷ [])) closure (apart t p q ok below c closure not_p) in (
       λ m. (listed_within c (length t) k ((shows.least (listed c (length t)) l).0 k m)).0,
       λ i. contains t (p ∷ q ∷ []) (previous_events t (p ∷ q ∷ [])) c ws (seeds_of t (p ∷ q ∷ [])) closure shows.leaves k i,
     )

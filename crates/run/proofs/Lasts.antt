@@ -9,7 +9,7 @@ use Rattle.trace.proofs.Events.{at_inside}
 use Rattle.answer.specs.declared.verdict.Verdict.{Verdict}
 use Rattle.answer.specs.declared.verdict.Verdict.TheVariants.{Race, NoRace}
 use Rattle.answer.specs.declared.verdict.WitnessFault.{WitnessFault}
-use Rattle.answer.specs.declared.verdict.WitnessFault.TheVariants.{Pair, NoRace as None-to-show, Buffer}
+use Rattle.answer.specs.declared.verdict.WitnessFault.TheVariants.{Pair, NoRace as NothingShown, Buffer}
 use Rattle.answer.specs.declared.verdict.PartnersFault.{PartnersFault}
 use Rattle.run.specs.declared.Request.{Request}
 use Rattle.run.specs.declared.Request.TheVariants.{Witness}
@@ -19,9 +19,9 @@ use Rattle.answer.specs.Buffers.{Filled}
 use Rattle.answer.specs.Buffers.Filled.{whole}
 use Rattle.session.specs.Questions.{pair_refusal}
 use Rattle.session.specs.Races.{Races, RacingPair, Shows, Witnessed, PartnersOf, Partnered, pair}
-use Rattle.session.specs.Races.Judged.{refused as judge-refused, race, no_race}
-use Rattle.session.specs.Races.Witnessed.{refused as witness_refused, no_race as no-witness, written}
-use Rattle.session.specs.Races.Partnered.{refused as partners-refused, written as partners-written}
+use Rattle.session.specs.Races.Judged.{refused as judge_refused, race, no_race}
+use Rattle.session.specs.Races.Witnessed.{refused as witness_refused, no_race as no_witness, written}
+use Rattle.session.specs.Races.Partnered.{refused as partners_refused, written as partners_written}
 use Rattle.run.specs.Runs.{Replies, Says}
 use Rattle.run.specs.Runs.Replies.{entered, loaded, judged, witnessed, partnered, swept}
 use Rattle.run.specs.Runs.Says.{by_judge, by_witness, by_long_witness, by_no_witness, by_partner, by_no_partner, by_sweep, by_no_sweep}
@@ -53,14 +53,14 @@ filled_front list before n after (whole h) = take_at list (drop (length list) be
 WitnessMeans : List Event → ℕ → ℕ → List ℕ → Result ℕ WitnessFault → Type 0
 WitnessMeans t p q after (Ok n) = RacingPair t p q × Shows t p q (take n after)
 WitnessMeans t p q after (Err (Pair f)) = Unit {0}
-WitnessMeans t p q after (Err None-to-show) = (pair_refusal t p q ≡ None) × (Races t p q → ⊥)
+WitnessMeans t p q after (Err NothingShown) = (pair_refusal t p q ≡ None) × (Races t p q → ⊥)
 WitnessMeans t p q after (Err (Buffer f)) = RacingPair t p q
 
 witness_means : (t : List Event) (p q : ℕ) (before : List ℕ) (r : Result ℕ WitnessFault) (after : List ℕ) → Witnessed t p q (Shows t p q) before r after
     → WitnessMeans t p q after r
 unfolding WitnessMeans
 witness_means t p q before r after (witness_refused h) = tt
-witness_means t p q before r after (no-witness none apart) = (none, apart)
+witness_means t p q before r after (no_witness none apart) = (none, apart)
 witness_means t p q before r after (written {ws} {r = Ok n} none races shows f) =
     ((none, races), subst (Shows t p q) (sym (filled_front ws before n after f)) shows)
 witness_means t p q before r after (written {r = Err f} none races shows g) = (none, races)
@@ -72,17 +72,17 @@ PartnersMeans t q after (Err f) = Unit {0}
 
 partners_means : (t : List Event) (q : ℕ) (before : List ℕ) (r : Result ℕ PartnersFault) (after : List ℕ) → Partnered t q before r after → PartnersMeans t q after r
 unfolding PartnersMeans
-partners_means t q before r after (partners-refused h) = tt
-partners_means t q before r after (partners-written {ps} {r = Ok n} inside partners f) =
+partners_means t q before r after (partners_refused h) = tt
+partners_means t q before r after (partners_written {ps} {r = Ok n} inside partners f) =
     (inside, subst (PartnersOf t q) (sym (filled_front ps before n after f)) partners)
-partners_means t q before r after (partners-written {r = Err f} inside partners g) = tt
+partners_means t q before r after (partners_written {r = Err f} inside partners g) = tt
 
 -- what a reply says of a pair is right
 pub says_right : (room : ℕ) (t : List Event) (p q : ℕ) (x : Request) (y : Reply) (v : Verdict) → Replies room t x y → Says t p q x y v → Decided t p q v
 unfolding WitnessMeans PartnersMeans
 says_right room t p q x y v (entered h) s = elim s [ ]
 says_right room t p q x y v (loaded h) s = elim s [ ]
-says_right room t p q x y v (judged (judge-refused h)) s = elim s [ ]
+says_right room t p q x y v (judged (judge_refused h)) s = elim s [ ]
 says_right room t p q x y v (judged (race none h)) by_judge = decided t p q Race none (none, h)
 says_right room t p q x y v (judged (no_race none h)) by_judge = decided t p q NoRace none (λ r. h r.1)
 says_right room t p q x y v (witnessed {before = b} {after = a} w) (by_witness {n = n}) =
@@ -90,7 +90,7 @@ says_right room t p q x y v (witnessed {before = b} {after = a} w) (by_witness {
 says_right room t p q x y v (witnessed {before = b} {after = a} w) (by_long_witness {f = f}) =
     let m = witness_means t p q (vec_items b) (Err (Buffer f)) (vec_items a) w in decided t p q Race m.0 m
 says_right room t p q x y v (witnessed {before = b} {after = a} w) by_no_witness =
-    let m = witness_means t p q (vec_items b) (Err None-to-show) (vec_items a) w in decided t p q NoRace m.0 (λ r. m.1 r.1)
+    let m = witness_means t p q (vec_items b) (Err NothingShown) (vec_items a) w in decided t p q NoRace m.0 (λ r. m.1 r.1)
 says_right room t p q x y v (partnered {before = b} {after = a} w) (by_partner {n = n} i) =
     let m = partners_means t q (vec_items b) (Ok n) (vec_items a) w in
     let r = (m.1.exact p).0 i in

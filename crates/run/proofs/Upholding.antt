@@ -5,7 +5,7 @@ use Rattle.std.specs.declared.alloc.Global.{Global}
 use Rattle.std.proofs.lemmas.List.{length_push}
 use Rattle.std.proofs.lemmas.Bool.{cases_lt}
 use Rattle.std.proofs.lemmas.List.Sums.{fold_more}
-use Rattle.std.proofs.lemmas.Option.{slice_get-get_or}
+use Rattle.std.proofs.lemmas.Option.{slice_get_read}
 use Rattle.trace.specs.declared.event.Event.{Event}
 use Rattle.trace.specs.Traces.{Admits}
 use Rattle.answer.specs.declared.verdict.Verdict.{Verdict}
@@ -37,9 +37,6 @@ nth_before (x ∷ xs) ys zero h = refl
 nth_before (x ∷ xs) ys (suc k) h = nth_before xs ys k (omega arith)
 
 module _ (room : ℕ) (requests : List Request) where
-  pub each_none : Each room requests []
-  each_none i x = absurd (let r = x.reply_is in grind arith)
-
   -- one reply more
   pub each_more : (replies : List Reply) (i : ℕ) (request : Request) (reply : Reply) → length replies ≡ i → slice_get requests i ≡ Some request
       → Replies room (so_far room (take i requests)) request reply → Each room requests replies → Each room requests (replies ++ (reply ∷ []))
@@ -62,20 +59,17 @@ module _ (room : ℕ) (requests : List Request) where
       → trace_after room (so_far room (take i requests)) request ≡ so_far room (take (i + 1) requests)
   so_far_more i request inside is = rw (fold_more (trace_after room) [] requests i request inside, ← is) refl
 
-  pub request_there : (i : ℕ) (request : Request) → i < length requests → request ≡ get_or requests i request → slice_get requests i ≡ Some request
-  request_there i request inside is = slice_get-get_or requests i request inside ∙ ap Some (sym is)
-
   -- one turn of a run
   pub turn_more : {same : ℕ} {i : ℕ} {request : Request} {reply : Reply} {t u : List Event} {replies next : List Reply} → same ≡ room
       → t ≡ so_far room (take i requests) → length replies ≡ i → i < length requests → request ≡ get_or requests i request → Replies same t request reply
       → u ≡ trace_after same t request → next ≡ replies ++ (reply ∷ []) → Each room requests replies
       → (u ≡ so_far room (take (i + 1) requests)) × (length next ≡ i + 1) × Each room requests next
-  turn_more {i = i} {request} {reply} {replies = replies} room-is t-is many inside there right u-is next_is each =
-      let r = rw (room-is, t-is) at right in
-      let v = rw (room-is, t-is) at u-is in (
+  turn_more {i = i} {request} {reply} {replies = replies} room_is t_is many inside there right u_is next_is each =
+      let r = rw (room_is, t_is) at right in
+      let v = rw (room_is, t_is) at u_is in (
         v ∙ so_far_more i request inside there,
         ap length next_is ∙ length_push replies reply ∙ ap (λ (n : ℕ). n + 1) many,
-        subst (Each room requests) (sym next_is) (each_more replies i request reply many (request_there i request inside there) r each),
+        subst (Each room requests) (sym next_is) (each_more replies i request reply many (slice_get_read requests (length requests) i request refl inside there) r each),
       )
 
   module _ (replies : List Reply) (many : length replies ≡ length requests) (each : Each room requests replies) where

@@ -12,7 +12,7 @@ use Rattle.answer.specs.declared.verdict.RacePair.{RacePair}
 use Rattle.answer.specs.declared.verdict.Verdict.{Verdict}
 use Rattle.answer.specs.declared.verdict.Verdict.TheVariants.{Race, NoRace}
 use Rattle.answer.specs.declared.verdict.WitnessFault.{WitnessFault}
-use Rattle.answer.specs.declared.verdict.WitnessFault.TheVariants.{NoRace as None-to-show, Buffer}
+use Rattle.answer.specs.declared.verdict.WitnessFault.TheVariants.{NoRace as NothingShown, Buffer}
 use Rattle.answer.specs.declared.verdict.PartnersFault.{PartnersFault}
 use Rattle.run.specs.declared.Request.{Request}
 use Rattle.run.specs.declared.Request.TheVariants.{Enter, Load, Judge, Witness, Partners, Sweep}
@@ -55,7 +55,7 @@ pub data Says (t : List Event) (p q : ℕ) : Request → Reply → Verdict → T
   by_judge : {v : Verdict} → Says t p q (Judge p q) (Judges (Ok v)) v
   by_witness : {before after : Vec ℕ Global} {n : ℕ} → Says t p q (Witness p q before) (Witnesses (Ok n) after) Race
   by_long_witness : {before after : Vec ℕ Global} {f : BufferFault} → Says t p q (Witness p q before) (Witnesses (Err (Buffer f)) after) Race
-  by_no_witness : {before after : Vec ℕ Global} → Says t p q (Witness p q before) (Witnesses (Err None-to-show) after) NoRace
+  by_no_witness : {before after : Vec ℕ Global} → Says t p q (Witness p q before) (Witnesses (Err NothingShown) after) NoRace
   by_partner : {before after : Vec ℕ Global} {n : ℕ} → Memᴰ p (take n (vec_items after)) → Says t p q (Partners q before) (Lists (Ok n) after) Race
   by_no_partner : {before after : Vec ℕ Global} {n : ℕ} → p < q → (Memᴰ p (take n (vec_items after)) → ⊥)
       → Says t p q (Partners q before) (Lists (Ok n) after) NoRace

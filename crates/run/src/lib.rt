@@ -1,8 +1,8 @@
 //! A run: any list of requests, performed on a session that is opened for it.
 #![tactic(auto)]
 
-ghost use Rattle.std.specs.Prelude.{◌≡◌, ℕ, IfOk, OnOk};
-ghost use Rattle.session.specs.Entries.{Stands};
+ghost use Rattle.std.specs.Prelude.{◌≡◌, IfOk, OnOk, vec_items};
+ghost use Rattle.std.specs.Fn.{FnOnceReturnsAtMut};
 ghost use Rattle.run.specs.Runs.{trace_after, Replies, Upholds};
 
 use answer::collector::BufferFault;
@@ -34,49 +34,18 @@ pub enum Reply {
     Sweep(Result<usize, BufferFault>, Vec<RacePair>),
 }
 
-/// Performs a Witness.
-fn witness<R: Reel>(
+/// Has a call fill a copy of the buffer, and returns what it answers and the copy.
+fn filled<T: Copy, A, F: FnOnce(&mut [T]) -> A>(
     heap: Global,
-    session: &Session<R>,
-    p: usize,
-    q: usize,
-    buffer: &Vec<u16>,
-) -> Result<Reply, AllocError>
-    ensures { let t = R.Reel.events session.now.reel in ((room : ℕ) → Stands session.now.locks t
-        → IfOk result (λ reply. Replies room t (Request.Witness p q buffer.now) reply)) }
+    buffer: &Vec<T>,
+    call: F,
+) -> Result<(A, Vec<T>), AllocError>
+    requires { F.IsAlwaysCallable call }
+    ensures { IfOk result (λ r. FnOnceReturnsAtMut F.FnOnce call (vec_items buffer.now) r.0 (vec_items r.1)) }
 {
-    let mut buffer = Vec::from_slice(heap, buffer.as_slice())?;
-    let answer = session.witness(p, q, buffer.as_mut_slice());
-    Ok(Reply::Witness(answer, buffer))
-}
-
-/// Performs a Partners.
-fn partners<R: Reel>(
-    heap: Global,
-    session: &Session<R>,
-    q: usize,
-    buffer: &Vec<u16>,
-) -> Result<Reply, AllocError>
-    ensures { let t = R.Reel.events session.now.reel in ((room : ℕ) → Stands session.now.locks t
-        → IfOk result (λ reply. Replies room t (Request.Partners q buffer.now) reply)) }
-{
-    let mut buffer = Vec::from_slice(heap, buffer.as_slice())?;
-    let answer = session.partners(q, buffer.as_mut_slice());
-    Ok(Reply::Partners(answer, buffer))
-}
-
-/// Performs a Sweep.
-fn sweep<R: Reel>(
-    heap: Global,
-    session: &Session<R>,
-    buffer: &Vec<RacePair>,
-) -> Result<Reply, AllocError>
-    ensures { let t = R.Reel.events session.now.reel in ((room : ℕ) → Stands session.now.locks t
-        → IfOk result (λ reply. Replies room t (Request.Sweep buffer.now) reply)) }
-{
-    let mut buffer = Vec::from_slice(heap, buffer.as_slice())?;
-    let answer = session.sweep(buffer.as_mut_slice());
-    Ok(Reply::Sweep(answer, buffer))
+    let mut copy = Vec::from_slice(heap, buffer.as_slice())?;
+    let answer = call(copy.as_mut_slice());
+    Ok((answer, copy))
 }
 
 /// Performs one request.
@@ -85,19 +54,26 @@ fn reply_to<R: Reel>(
     session: &mut Session<R>,
     request: &Request,
 ) -> Result<Reply, AllocError>
-    ensures replies { let t = R.Reel.events session.old.reel in let room = R.Reel.room session.old.reel in (Stands session.old.locks t
-        → IfOk result (λ reply. Replies room t request.now reply)) }
-    ensures events { let t = R.Reel.events session.old.reel in let room = R.Reel.room session.old.reel in (Stands session.old.locks t
-        → OnOk result ((R.Reel.events session.new.reel ≡ trace_after room t request.now) × Stands session.new.locks (R.Reel.events session.new.reel))) }
-    ensures room { R.Reel.room session.new.reel ≡ R.Reel.room session.old.reel }
+    ensures replies { let s = session.old in IfOk result (λ reply. Replies s.room s.trace request.now reply) }
+    ensures trace { let s = session.old in OnOk result (session.new.trace ≡ trace_after s.room s.trace request.now) }
+    ensures room { session.new.room ≡ session.old.room }
 {
     match request {
         Request::Enter(bytes) => Ok(Reply::Enter(session.enter(bytes.as_slice()))),
         Request::Load(bytes) => Ok(Reply::Load(session.load(bytes.as_slice()))),
         Request::Judge(p, q) => Ok(Reply::Judge(session.judge(*p, *q))),
-        Request::Witness(p, q, buffer) => witness(heap, session, *p, *q, buffer),
-        Request::Partners(q, buffer) => partners(heap, session, *q, buffer),
-        Request::Sweep(buffer) => sweep(heap, session, buffer),
+        Request::Witness(p, q, buffer) => {
+            let (answer, buffer) = filled(heap, buffer, |copy| session.witness(*p, *q, copy))?;
+            Ok(Reply::Witness(answer, buffer))
+        }
+        Request::Partners(q, buffer) => {
+            let (answer, buffer) = filled(heap, buffer, |copy| session.partners(*q, copy))?;
+            Ok(Reply::Partners(answer, buffer))
+        }
+        Request::Sweep(buffer) => {
+            let (answer, buffer) = filled(heap, buffer, |copy| session.sweep(copy))?;
+            Ok(Reply::Sweep(answer, buffer))
+        }
     }
 }
 
@@ -111,6 +87,7 @@ pub fn perform<R: Reel + Drop>(
 {
     let mut session = Session::open(reel);
     let mut replies = Vec::new(heap);
+    // a loop, since the closure of a chain would change the session that it captures, and the proof would know nothing of it
     for request in requests {
         let reply = reply_to(heap, &mut session, request)?;
         replies.push(reply)?;

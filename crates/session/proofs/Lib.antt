@@ -6,3 +6,4 @@ pub mod Racing
 pub mod Listings
 pub mod Partnering
 pub mod Sweeping
+pub mod Viewing

@@ -1,5 +1,5 @@
 -- The partners of a position, one earlier position after another.
-use Rattle.std.proofs.Common.{◌≡◌, ℕ, ◌+◌, ◌<◌, ◌≤◌, Bool, ◌↔◌, List, [], ◌∷◌, ◌++◌, map, length, sym, refl, ap, subst, ⊎_elim, append_assoc, append-nil, arith}
+use Rattle.std.proofs.Common.{◌≡◌, ℕ, ◌+◌, ◌<◌, ◌≤◌, ◌↔◌, List, [], ◌∷◌, ◌++◌, map, length, sym, refl, ap, subst, ⊎_elim, arith}
 use mathlib.Core.List.Memᴰ
 use mathlib.Core.List.{map-append, Memᴰ}
 use Rattle.std.proofs.lemmas.Bool.{cases_eq}
@@ -7,7 +7,9 @@ use Rattle.trace.specs.declared.event.Event.{Event}
 use Rattle.trace.specs.Reorderings.{Ascending}
 use Rattle.trace.proofs.Events.{at_inside}
 use Rattle.trace.proofs.Ascending.{ascending_push}
-use Rattle.answer.specs.Buffers.{Collecting}
+use Rattle.answer.specs.declared.collector.Collector.{Collector}
+use Rattle.answer.specs.Collectors.{Adds}
+use Rattle.answer.proofs.Collecting.{adds_both}
 use Rattle.session.specs.Races.{RacingPair, PartnersOf}
 use Rattle.session.proofs.Asked.{asked}
 
@@ -60,14 +62,10 @@ module _ (t : List Event) (q : ℕ) where
     );
   }
 
--- entries are collected as the positions are
-module _ {A : Type 0} (f : ℕ → A) (before list entries : List A) (count : ℕ) (full : Bool) where
-  pub entries_none : Collecting before list entries count full → Collecting before (list ++ map f []) entries count full
-  entries_none c = rw (append-nil list) c
-
-  pub entries_more : (ps : List ℕ) (n : ℕ) (x : A) → x ≡ f n → Collecting before ((list ++ map f ps) ++ (x ∷ [])) entries count full
-      → Collecting before (list ++ map f (ps ++ (n ∷ []))) entries count full
-  entries_more ps n x is c = rw (map-append f ps (n ∷ []), ← append_assoc list (map f ps) (f n ∷ []), ← is) c
+-- the entry of one position more is added
+pub entries_more : {A : Type 0} (f : ℕ → A) {old now new : Collector A} (ps : List ℕ) (n : ℕ) (x : A) → x ≡ f n → Adds (map f ps) old now
+    → Adds (x ∷ []) now new → Adds (map f (ps ++ (n ∷ []))) old new
+entries_more f ps n x is a one = rw (map-append f ps (n ∷ []), ← is) (adds_both a (x ∷ []) one)
 
 -- positions are entries as they are
 pub map_same : (ps : List ℕ) → map (λ p. p) ps ≡ ps

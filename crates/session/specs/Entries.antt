@@ -13,6 +13,7 @@ use Rattle.answer.specs.declared.fault.Layer.{Layer}
 use Rattle.answer.specs.declared.fault.Layer.TheVariants.{Record, Trace, Reel}
 use Rattle.answer.specs.declared.fault.EntryRefusal.{EntryRefusal}
 use Rattle.answer.specs.Faults.{Refusal, refusal}
+use Rattle.session.specs.States.{State}
 
 -- the refusal of record i, if a layer gives its number; else what comes next
 abbrev pub unless : {A : Type 0} → Option ℕ → Layer → ℕ → Result A Refusal → Result A Refusal
@@ -81,10 +82,11 @@ pub record Stands (table : LockTable) (t : List Event) : Type 0 where
   pub admitted : Admits t
   pub tells : Tells table t
 
--- a call that takes records from these bytes answers so, and leaves the session so
-pub record Takes {A : Type 0} (outcome : Outcome A) (t : List Event) (bytes : List ℕ) (r : Result A EntryRefusal) (table : LockTable) (u : List Event)
-    : Type 0 where
+-- a call that takes records from these bytes answers so, and then the session has these events, which the trace check admits as it admits those
+-- of every session, and as much room as before
+pub record Takes {A : Type 0} (outcome : Outcome A) (old : State) (bytes : List ℕ) (r : Result A EntryRefusal) (new : State) : Type 0 where
   pub answer : told refusal r ≡ outcome.answer
-  pub events : u ≡ outcome.events
-  pub recorded : Recorded t bytes u
-  pub stands : Stands table u
+  pub events : new.trace ≡ outcome.events
+  pub recorded : Recorded old.trace bytes new.trace
+  pub admitted : Admits old.trace → Admits new.trace
+  pub room : new.room ≡ old.room

@@ -1,4 +1,5 @@
 -- The definitions that the contracts cite.
+pub mod States
 pub mod Entries
 pub mod Questions
 pub mod Races

@@ -12,7 +12,7 @@ use Rattle.answer.specs.declared.verdict.RacePair.{RacePair}
 use Rattle.answer.specs.declared.verdict.Verdict.{Verdict}
 use Rattle.answer.specs.declared.verdict.Verdict.TheVariants.{Race, NoRace}
 use Rattle.answer.specs.declared.verdict.WitnessFault.{WitnessFault}
-use Rattle.answer.specs.declared.verdict.WitnessFault.TheVariants.{Pair, NoRace as None-to-show, Buffer}
+use Rattle.answer.specs.declared.verdict.WitnessFault.TheVariants.{Pair, NoRace as NothingShown, Buffer}
 use Rattle.answer.specs.declared.verdict.PartnersFault.{PartnersFault}
 use Rattle.answer.specs.declared.verdict.PartnersFault.TheVariants.{NoEvent, Buffer as BufferOf}
 use Rattle.answer.specs.declared.collector.BufferFault.{BufferFault}
@@ -59,7 +59,7 @@ pub record Shows (t : List Event) (p q : ℕ) (ws : List ℕ) : Type 0 where
 -- witness, in one or the other words, is written into the buffer
 pub data Witnessed (t : List Event) (p q : ℕ) (shows : List ℕ → Type 0) (before : List ℕ) : Result ℕ WitnessFault → List ℕ → Type 0 where
   refused : {f : PairFault} → pair_refusal t p q ≡ Some (pair_number f) → Witnessed t p q shows before (Err (Pair f)) before
-  no_race : pair_refusal t p q ≡ None → (Races t p q → ⊥) → Witnessed t p q shows before (Err None-to-show) before
+  no_race : pair_refusal t p q ≡ None → (Races t p q → ⊥) → Witnessed t p q shows before (Err NothingShown) before
   written : {ws after : List ℕ} {r : Result ℕ BufferFault} → pair_refusal t p q ≡ None → Races t p q → shows ws → Filled ws before r after
       → Witnessed t p q shows before (as_witness r) after
 

@@ -1,12 +1,17 @@
 //! A session and the calls that put records into it.
-ghost use Rattle.std.specs.Prelude.{◌≡◌, ℕ, false, [], length, is_ok};
+ghost use Rattle.std.specs.Prelude.{◌≡◌, ◌≤◌, ℕ, [], length};
 ghost use Rattle.std.specs.List.{slice_get};
 ghost use Rattle.trace.specs.Faults.{told};
+ghost use Rattle.trace.specs.Traces.{Admits};
 ghost use Rattle.answer.specs.Faults.{at_index};
+ghost use Rattle.reel.specs.Passing.{left_of};
+ghost use Rattle.session.specs.States.{State};
 ghost use Rattle.session.specs.Entries.{Stands, Takes, offer, enter, enter_all, load};
 
 use answer::fault::{EntryFault, EntryRefusal};
 use reel::Reel;
+use reel::events::Events;
+use std::marker::Model;
 use trace::event::Event;
 use trace::locks::LockTable;
 use trace::record::{RECORD, RecordFault, decode};
@@ -17,19 +22,26 @@ mod races;
 
 /// The events are in the reel, and the table has the holders of the locks at their end.
 #[derive(Drop)]
-pub struct Session<R> {
+pub struct Session<R: Reel> {
     reel: R,
     locks: LockTable,
 }
 
+/// Of a session its callers see the trace so far, which the trace check admits, and how many events it can have.
+impl<R: Reel> Model for Session<R> {
+    ghost Value = { State };
+
+    ghost view = { λ s. record { trace = R.events s.reel; room = R.room s.reel } };
+
+    ghost invariant = { λ s. Stands s.locks (R.events s.reel) };
+}
+
 impl<R: Reel> Session<R> {
     /// Opens a session over the reel, which is wiped.
-    pub fn open(reel: R) -> Session<R>
-        ensures events { R.Reel.events result.reel ≡ [] }
-        ensures room { R.Reel.room result.reel ≡ R.Reel.room reel }
-        ensures stands { Stands result.locks (R.Reel.events result.reel) }
+    pub fn open(mut reel: R) -> Session<R>
+        ensures trace { result.trace ≡ [] }
+        ensures room { result.room ≡ R.Reel.room reel }
     {
-        let mut reel = reel;
         reel.wipe();
         Session {
             reel,
@@ -39,11 +51,7 @@ impl<R: Reel> Session<R> {
 
     /// Takes the event of a record, if no check refuses it.
     fn take_record(&mut self, record: &[u8]) -> Result<(), EntryFault>
-        ensures takes { let t = R.Reel.events self.old.reel in (Stands self.old.locks t → (i : ℕ)
-            → Takes (offer (R.Reel.room self.old.reel) t i «record».now) t «record».now (told (at_index i) result)
-            self.new.locks (R.Reel.events self.new.reel)) }
-        ensures room { R.Reel.room self.new.reel ≡ R.Reel.room self.old.reel }
-        ensures same { is_ok result ≡ false → self.new.locks ≡ self.old.locks }
+        ensures { let t = self.old.trace in ((i : ℕ) → Takes (offer self.old.room t i «record».now) self.old «record».now (told (at_index i) result) self.new) }
     {
         let event = decode(record)?;
         let mut locks = self.locks;
@@ -55,25 +63,15 @@ impl<R: Reel> Session<R> {
 
     /// Takes record `index` of a call, if no check refuses it.
     fn offer(&mut self, index: usize, record: &[u8]) -> Result<(), EntryRefusal>
-        ensures takes { let t = R.Reel.events self.old.reel in (Stands self.old.locks t
-            → Takes (offer (R.Reel.room self.old.reel) t index «record».now) t «record».now result
-            self.new.locks (R.Reel.events self.new.reel)) }
-        ensures room { R.Reel.room self.new.reel ≡ R.Reel.room self.old.reel }
-        ensures same { is_ok result ≡ false → self.new.locks ≡ self.old.locks }
+        ensures { let t = self.old.trace in Takes (offer self.old.room t index «record».now) self.old «record».now result self.new }
     {
-        match self.take_record(record) {
-            Ok(()) => Ok(()),
-            Err(fault) => Err(EntryRefusal { fault, index }),
-        }
+        self.take_record(record)
+            .map_err(|fault| EntryRefusal { fault, index })
     }
 
     /// Enter: takes one record.
     pub fn enter(&mut self, record: &[u8]) -> Result<(), EntryRefusal>
-        ensures takes { let t = R.Reel.events self.old.reel in (Stands self.old.locks t
-            → Takes (enter (R.Reel.room self.old.reel) t «record».now) t «record».now result
-            self.new.locks (R.Reel.events self.new.reel)) }
-        ensures room { R.Reel.room self.new.reel ≡ R.Reel.room self.old.reel }
-        ensures same { is_ok result ≡ false → self.new.locks ≡ self.old.locks }
+        ensures { let t = self.old.trace in Takes (enter self.old.room t «record».now) self.old «record».now result self.new }
     {
         self.offer(0, record)
     }
@@ -81,26 +79,17 @@ impl<R: Reel> Session<R> {
     /// Enters the records of some bytes one after another, up to the first that is refused, as the last is if it is cut short; answers how
     /// many it took.
     pub fn enter_all(&mut self, bytes: &[u8]) -> Result<usize, EntryRefusal>
-        ensures takes { let t = R.Reel.events self.old.reel in (Stands self.old.locks t
-            → Takes (enter_all (R.Reel.room self.old.reel) t bytes.now) t bytes.now result
-            self.new.locks (R.Reel.events self.new.reel)) }
-        ensures room { R.Reel.room self.new.reel ≡ R.Reel.room self.old.reel }
+        ensures { let t = self.old.trace in Takes (enter_all self.old.room t bytes.now) self.old bytes.now result self.new }
     {
-        let count = bytes.len().div_ceil(RECORD);
-        for index in 0..count {
-            let start = RECORD * index;
-            let end = bytes.len().min(start + RECORD);
-            self.offer(index, &bytes[start..end])?;
+        for (index, record) in bytes.chunks(RECORD).enumerate() {
+            self.offer(index, record)?;
         }
-        Ok(count)
+        Ok(bytes.len().div_ceil(RECORD))
     }
 
     /// Load: takes the records of a dump, one after another, up to the first that is refused; answers how many it took.
     pub fn load(&mut self, dump: &[u8]) -> Result<usize, EntryRefusal>
-        ensures takes { let t = R.Reel.events self.old.reel in (Stands self.old.locks t
-            → Takes (load (R.Reel.room self.old.reel) t dump.now) t dump.now result
-            self.new.locks (R.Reel.events self.new.reel)) }
-        ensures room { R.Reel.room self.new.reel ≡ R.Reel.room self.old.reel }
+        ensures { let t = self.old.trace in Takes (load self.old.room t dump.now) self.old dump.now result self.new }
     {
         if dump.len() % RECORD != 0 {
             let fault = EntryFault::from(RecordFault::Length);
@@ -112,22 +101,31 @@ impl<R: Reel> Session<R> {
 
     /// How many events the session has.
     pub fn count(&self) -> usize
-        ensures { result ≡ length (R.Reel.events self.now.reel) }
+        ensures { result ≡ length self.now.trace }
     {
         self.reel.count()
     }
 
     /// How many events it can have.
     pub fn capacity(&self) -> usize
-        ensures { result ≡ R.Reel.room self.now.reel }
+        ensures { result ≡ self.now.room }
     {
         self.reel.capacity()
     }
 
     /// The event at a position; none exactly when the position is not below the count.
     pub fn event(&self, position: usize) -> Option<Event>
-        ensures { result ≡ slice_get (R.Reel.events self.now.reel) position }
+        ensures { result ≡ slice_get self.now.trace position }
     {
         self.reel.event(position)
+    }
+
+    /// The events, from the first on; the trace check admits them, and they are 65,535 at most.
+    pub fn iter(&self) -> Events<'_, R>
+        ensures events { left_of R.Reel.events result ≡ self.now.trace }
+        ensures admitted { Admits self.now.trace }
+        ensures few { length self.now.trace ≤ 65535 }
+    {
+        self.reel.iter()
     }
 }

@@ -1,55 +1,51 @@
 //! Sessions over both reels on a few records.
 use crate::session::Session;
 use answer::collector::BufferFault;
-use answer::fault::{EntryRefusal, Layer, PairFault};
+use answer::fault::{EntryRefusal, Layer, Layered, PairFault};
 use answer::verdict::{PartnersFault, RacePair, Verdict, WitnessFault};
 use reel::Reel;
 use reel::board::BoardReel;
 use reel::host::HostReel;
 use std::process::Abort;
 use std::test::Fail;
+use trace::fault::Fault;
+use trace::kind::Kind;
 
-const READ: u8 = 1;
-
-const WRITE: u8 = 2;
-
-const ACQUIRE: u8 = 3;
-
-const RELEASE: u8 = 4;
-
-fn record(kind: u8, thread: u8, subject: u16) -> [u8; 8] {
+// `cases` has this and the two below too: what is under cfg(test) is not seen from another crate
+fn record(kind: Kind, thread: u8, subject: u16) -> [u8; 8] {
     let [low, high] = subject.to_le_bytes();
-    [kind, thread, low, high, 7, 0, 0, 0]
+    [u8::from(kind), thread, low, high, 7, 0, 0, 0]
 }
 
 /// The number, the layer and the index of a refusal.
 fn refused<T: Drop>(answer: Result<T, EntryRefusal>) -> Option<(u8, Layer, usize)> {
-    match answer {
-        Ok(_) => None,
-        Err(refusal) => Some((refusal.fault.number(), refusal.fault.layer(), refusal.index)),
-    }
+    let refusal = answer.err()?;
+    Some((refusal.fault.number(), refusal.fault.layer(), refusal.index))
 }
 
 /// The trace check and the limits, at a session with room for four events at least.
 fn enters<R: Reel + Drop>(rt: &impl Abort, reel: R) -> Result<(), Fail> {
     let mut session = Session::open(reel);
-    assert_eq!(rt; refused(session.enter(&record(ACQUIRE, 0, 0))), None);
+    assert_eq!(rt; refused(session.enter(&record(Kind::Acquire, 0, 0))), None);
     assert_eq!(rt;
-        refused(session.enter(&record(RELEASE, 1, 0))),
+        refused(session.enter(&record(Kind::Release, 1, 0))),
         Some((6, Layer::Trace, 0))
     );
     assert_eq!(rt;
-        refused(session.enter(&record(ACQUIRE, 0, 0))),
+        refused(session.enter(&record(Kind::Acquire, 0, 0))),
         Some((5, Layer::Trace, 0))
     );
-    assert_eq!(rt; refused(session.enter(&record(WRITE, 15, 1023))), None);
     assert_eq!(rt;
-        refused(session.enter(&record(READ, 15, 1024))),
+        refused(session.enter(&record(Kind::Write, 15, 1023))),
+        None
+    );
+    assert_eq!(rt;
+        refused(session.enter(&record(Kind::Read, 15, 1024))),
         Some((4, Layer::Record, 0))
     );
-    assert_eq!(rt; refused(session.enter(&record(ACQUIRE, 2, 63))), None);
+    assert_eq!(rt; refused(session.enter(&record(Kind::Acquire, 2, 63))), None);
     assert_eq!(rt;
-        refused(session.enter(&record(ACQUIRE, 2, 64))),
+        refused(session.enter(&record(Kind::Acquire, 2, 64))),
         Some((4, Layer::Record, 0))
     );
     assert_eq!(rt; session.count(), 3);
@@ -104,19 +100,23 @@ fn full<R: Reel + Drop>(rt: &impl Abort, reel: R, room: usize) {
     let mut session = Session::open(reel);
     assert_eq!(rt; session.capacity(), room);
     for k in 0..room {
+        // a cast, since a remainder by 1,024 fits
         let subject = (k % 1024) as u16;
-        assert_eq!(rt; refused(session.enter(&record(READ, 0, subject))), None);
+        assert_eq!(rt;
+            refused(session.enter(&record(Kind::Read, 0, subject))),
+            None
+        );
     }
     assert_eq!(rt;
-        refused(session.enter(&record(READ, 0, 0))),
+        refused(session.enter(&record(Kind::Read, 0, 0))),
         Some((7, Layer::Reel, 0))
     );
     assert_eq!(rt;
-        refused(session.load(&record(READ, 0, 0))),
+        refused(session.load(&record(Kind::Read, 0, 0))),
         Some((7, Layer::Reel, 0))
     );
     assert_eq!(rt;
-        refused(session.enter(&record(RELEASE, 0, 0))),
+        refused(session.enter(&record(Kind::Release, 0, 0))),
         Some((6, Layer::Trace, 0))
     );
     assert_eq!(rt; session.count(), room);
@@ -130,7 +130,7 @@ fn full_reels(rt: HostRuntime) {
 }
 
 /// A session over a board reel with these events: kind, thread, subject.
-fn session_of(events: &[(u8, u8, u16)]) -> Result<Session<BoardReel>, Fail> {
+fn session_of(events: &[(Kind, u8, u16)]) -> Result<Session<BoardReel>, Fail> {
     let mut session = Session::open(BoardReel::new());
     for (kind, thread, subject) in events {
         session.enter(&record(*kind, *thread, *subject))?;
@@ -139,23 +139,20 @@ fn session_of(events: &[(u8, u8, u16)]) -> Result<Session<BoardReel>, Fail> {
 }
 
 /// The number of the refusal of a question.
-fn number<T: Drop>(answer: Result<T, PairFault>) -> Option<u8> {
-    match answer {
-        Ok(_) => None,
-        Err(fault) => Some(fault.number()),
-    }
+fn number<T: Drop, F: Fault>(answer: Result<T, F>) -> Option<u8> {
+    answer.err().map(|fault| fault.number())
 }
 
 #[test]
 fn critical_sections_apart(rt: HostRuntime) -> Result<(), Fail> {
     // A: 0w0 0a0 0z0 1a0 1z0 1w0
     let a = session_of(&[
-        (2, 0, 0),
-        (3, 0, 0),
-        (4, 0, 0),
-        (3, 1, 0),
-        (4, 1, 0),
-        (2, 1, 0),
+        (Kind::Write, 0, 0),
+        (Kind::Acquire, 0, 0),
+        (Kind::Release, 0, 0),
+        (Kind::Acquire, 1, 0),
+        (Kind::Release, 1, 0),
+        (Kind::Write, 1, 0),
     ])?;
     assert_eq!(rt; a.judge(0, 5).ok(), Some(Verdict::Race));
     let mut buffer = [9; 3];
@@ -178,7 +175,12 @@ fn critical_sections_apart(rt: HostRuntime) -> Result<(), Fail> {
 #[test]
 fn reads_and_locks(rt: HostRuntime) -> Result<(), Fail> {
     // C: 0w0 0w1 1r1 1w0
-    let c = session_of(&[(2, 0, 0), (2, 0, 1), (1, 1, 1), (2, 1, 0)])?;
+    let c = session_of(&[
+        (Kind::Write, 0, 0),
+        (Kind::Write, 0, 1),
+        (Kind::Read, 1, 1),
+        (Kind::Write, 1, 0),
+    ])?;
     assert_eq!(rt; c.judge(0, 3).ok(), Some(Verdict::NoRace));
     assert_eq!(rt; c.judge(1, 2).ok(), Some(Verdict::Race));
     let mut buffer = [9; 1];
@@ -189,20 +191,20 @@ fn reads_and_locks(rt: HostRuntime) -> Result<(), Fail> {
     assert_eq!(rt; c.vet(0, 3, &[2]).ok(), Some(false));
     // D: 0w0 0w1 1a0 1w2 1r1 1z0 2r2 2a0 2w0
     let d = session_of(&[
-        (2, 0, 0),
-        (2, 0, 1),
-        (3, 1, 0),
-        (2, 1, 2),
-        (1, 1, 1),
-        (4, 1, 0),
-        (1, 2, 2),
-        (3, 2, 0),
-        (2, 2, 0),
+        (Kind::Write, 0, 0),
+        (Kind::Write, 0, 1),
+        (Kind::Acquire, 1, 0),
+        (Kind::Write, 1, 2),
+        (Kind::Read, 1, 1),
+        (Kind::Release, 1, 0),
+        (Kind::Read, 2, 2),
+        (Kind::Acquire, 2, 0),
+        (Kind::Write, 2, 0),
     ])?;
     assert_eq!(rt; d.judge(0, 8).ok(), Some(Verdict::NoRace));
     assert_eq!(rt; d.unordered(0, 8).ok(), Some(true));
     // E: 0w0 1r0 2w0
-    let e = session_of(&[(2, 0, 0), (1, 1, 0), (2, 2, 0)])?;
+    let e = session_of(&[(Kind::Write, 0, 0), (Kind::Read, 1, 0), (Kind::Write, 2, 0)])?;
     assert_eq!(rt;
         e.partners(2, &mut buffer),
         Err(PartnersFault::Buffer(BufferFault::Full))

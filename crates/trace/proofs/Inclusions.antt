@@ -5,7 +5,7 @@ use Rattle.trace.specs.Traces.{Admits}
 use Rattle.trace.specs.Cuts.{Positions, SyncWants, HappensBeforeWants, SchedulableWants}
 use Rattle.trace.specs.Cuts.SyncWants.{last_write, earlier_release}
 use Rattle.trace.specs.Cuts.HappensBeforeWants.{release_before}
-use Rattle.trace.specs.Cuts.SchedulableWants.{as_before, last_write as Read-of}
+use Rattle.trace.specs.Cuts.SchedulableWants.{as_before, last_write as of_read}
 use Rattle.trace.specs.ClosureTheorems.{SyncInsideSchedulable, HappensBeforeInsideSchedulable}
 use Rattle.trace.proofs.Events.{at_same}
 use Rattle.trace.proofs.Releases.{release_before_next}
@@ -13,7 +13,7 @@ use Rattle.trace.proofs.Closures.{closure_inside}
 
 -- what the sync rule wants, the rule of schedulable happens-before wants
 pub sync_wants_schedulable : (t : List Event) (c : Positions) (w : ℕ) → Admits t → SyncWants t c w → SchedulableWants t c w
-sync_wants_schedulable t c w ok (last_write i lw) = Read-of i lw
+sync_wants_schedulable t c w ok (last_write i lw) = of_read i lw
 sync_wants_schedulable t c w ok (earlier_release {a} {b} {e} {f} i j lt p q ie if same rel) =
     let e_is : e ≡ rel.acquire = at_same t a e rel.acquire p rel.acquire_is in
     let before = release_before_next t a b e f ok lt p q ie if same w rel in

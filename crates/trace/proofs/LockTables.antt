@@ -1,25 +1,23 @@
--- What becomes of the table of lock states with one event.
-use Rattle.std.proofs.Common.{◌≡◌, ℕ, ◌<◌, true, false, cond, eqb, List, [], ◌∷◌, length, get_or, set, Some, None, Ok, Err, sym, refl, ap, ◌∙◌, ⊎_elim, arith, get_or-set_other, get_or-set_same}
+-- What becomes of the table of lock holders with one event.
+use Rattle.std.proofs.Common.{◌≡◌, ℕ, ◌<◌, true, false, cond, eqb, List, [], ◌∷◌, length, get_or, set, Some, None, Option, Ok, Err, sym, refl, ap, ◌∙◌, ⊎_elim, arith, get_or-set_other, get_or-set_same}
 use Rattle.std.proofs.lemmas.Bool.{cases_eq, eq-eqb, ne_eqb}
 use Rattle.trace.specs.declared.event.Event.{Event}
 use Rattle.trace.specs.declared.kind.Kind.{Kind}
 use Rattle.trace.specs.declared.kind.Kind.TheVariants.{Read, Write, Acquire, Release}
-use Rattle.trace.specs.declared.locks.LockState.{LockState}
-use Rattle.trace.specs.declared.locks.LockState.TheVariants.{Free, Held}
 use Rattle.trace.specs.declared.locks.LockTable.{LockTable}
 use Rattle.trace.specs.declared.locks.TraceFault.{TraceFault}
 use Rattle.trace.specs.Limits.{accesses}
 use Rattle.trace.specs.Faults.{trace_number}
 use Rattle.trace.specs.Traces.{all_free, after_event, holders_after, trace_refusal}
-use Rattle.trace.specs.Locks.{holder, holders, Turned}
+use Rattle.trace.specs.Locks.{holders, Turned}
 use Rattle.trace.proofs.Holders.{after_append, same_refusal, same_turn}
 
--- one state written
-pub put_state : (states : List LockState) (s : ℕ) (x : LockState) (l : ℕ) → s < length states
-    → holder (get_or (set states s x) l Free) ≡ cond (eqb l s) (holder x) (holder (get_or states l Free))
-put_state states s x l h =
-    ⊎_elim (λ (e : l ≡ s). let b = eq-eqb l s e in rw b (rw e (ap holder (get_or-set_same states s x Free h))))
-    (λ (n : l ≡ s → ⊥). let b = ne_eqb l s n in rw b (ap holder (get_or-set_other states s l x Free n)))
+-- one holder written
+pub put_holder : (hs : List (Option ℕ)) (s : ℕ) (x : Option ℕ) (l : ℕ) → s < length hs
+    → get_or (set hs s x) l None ≡ cond (eqb l s) x (get_or hs l None)
+put_holder hs s x l h =
+    ⊎_elim (λ (e : l ≡ s). let b = eq-eqb l s e in rw b (rw e (get_or-set_same hs s x None h)))
+    (λ (n : l ≡ s → ⊥). let b = ne_eqb l s n in rw b (get_or-set_other hs s l x None n))
     (cases_eq l s)
 
 module _ (table : LockTable) (e : Event) where
@@ -53,8 +51,8 @@ module _ (table : LockTable) (e : Event) where
       of_kind Acquire q a = absurd (grind arith)
       of_kind Release q a = absurd (grind arith)
 
-  -- the lock of an event has a state
-  lock_within : (k : Kind) → e.kind ≡ k → accesses k ≡ false → e.subject < length table.states
+  -- the lock of an event is in the table
+  lock_within : (k : Kind) → e.kind ≡ k → accesses k ≡ false → e.subject < length table.holders
   lock_within k q a =
       let s = rw (q, a) at e.known_subject in
       let w = table.whole in
@@ -62,15 +60,15 @@ module _ (table : LockTable) (e : Event) where
 
   module _ (next : LockTable) where
     -- a free lock is acquired
-    pub turned_acquire : e.kind ≡ Acquire → get_or table.states e.subject Free ≡ Free
-        → next.states ≡ set table.states e.subject (Held e.thread) → Turned table e (Ok tt) next
+    pub turned_acquire : e.kind ≡ Acquire → get_or table.holders e.subject None ≡ None
+        → next.holders ≡ set table.holders e.subject (Some e.thread) → Turned table e (Ok tt) next
     turned_acquire kind was is =
         turned next (rw (kind, was) refl)
-        (λ l. rw (kind, is) (put_state table.states e.subject (Held e.thread) l (lock_within Acquire kind refl)))
+        (λ l. rw (kind, is) (put_holder table.holders e.subject (Some e.thread) l (lock_within Acquire kind refl)))
 
     -- a lock is released by its holder
-    pub turned_release : (thread : ℕ) → e.kind ≡ Release → get_or table.states e.subject Free ≡ Held thread → thread ≡ e.thread
-        → next.states ≡ set table.states e.subject Free → Turned table e (Ok tt) next
+    pub turned_release : (thread : ℕ) → e.kind ≡ Release → get_or table.holders e.subject None ≡ Some thread → thread ≡ e.thread
+        → next.holders ≡ set table.holders e.subject None → Turned table e (Ok tt) next
     turned_release thread kind was own is =
         turned next (rw (kind, was, eq-eqb thread e.thread own) refl)
-        (λ l. rw (kind, is) (put_state table.states e.subject Free l (lock_within Release kind refl)))
+        (λ l. rw (kind, is) (put_holder table.holders e.subject None l (lock_within Release kind refl)))

@@ -11,7 +11,7 @@ use Rattle.trace.specs.Cuts.HappensBeforeWants.{release_before}
 use Rattle.trace.specs.Cuts.SchedulableWants.{as_before, last_write}
 use Rattle.trace.specs.Orders.{ReleaseBefore, HappensBefore, SchedulableHappensBefore}
 use Rattle.trace.specs.Orders.HappensBefore.{same, in_thread, released, chain}
-use Rattle.trace.specs.Orders.SchedulableHappensBefore.{same as same', in_thread as in-thread', released as released', read_from, chain as chain'}
+use Rattle.trace.specs.Orders.SchedulableHappensBefore.{same as same', in_thread as in_thread', released as released', read_from, chain as chain'}
 use Rattle.trace.specs.OrderTheorems.{BeforeOne, HappensBeforeSeeds, SchedulableBeforeSeeds, HappensBeforeSeed, SchedulableBeforeSeed}
 use Rattle.trace.proofs.Events.{at_some}
 
@@ -44,7 +44,7 @@ module _ (t : List Event) (c : Positions) (cut : Cut t c) where
   -- schedulable happens-before
   schedulable_in : Closed SchedulableWants t c → (p k : ℕ) → SchedulableHappensBefore t p k → In k c → In p c
   schedulable_in closed p k (same' e) i = i
-  schedulable_in closed p k (in-thread' h) i = cut.first_events p k h i
+  schedulable_in closed p k (in_thread' h) i = cut.first_events p k h i
   schedulable_in closed p k (released' h) i = closed p (as_before (released_wanted p k h i))
   schedulable_in closed p k (read_from h) i = closed p (last_write i h)
   schedulable_in closed p k (chain' {j = j} g h) i = schedulable_in closed p j g (schedulable_in closed j k h i)
@@ -72,7 +72,7 @@ happens_before_seeds t ss c h reached p = (
 -- the same for schedulable happens-before
 pub schedulable_before_seeds : SchedulableBeforeSeeds
 schedulable_before_seeds t ss c h reached p = (
-  λ i. reached_related SchedulableWants t (SchedulableHappensBefore t) (λ k n. same' (at_some t k n).1) (λ d k e. in-thread' e)
+  λ i. reached_related SchedulableWants t (SchedulableHappensBefore t) (λ k n. same' (at_some t k n).1) (λ d k e. in_thread' e)
       (λ i j k a b. chain' a b) (schedulable_wanted t) ss (λ s m. h.cut.in_trace s (h.seeded s m)) p (reached p i),
   λ b. schedulable_in t c h.cut h.closed p b.0 b.2 (h.seeded b.0 b.1),
 )

@@ -5,7 +5,7 @@ use Rattle.trace.specs.Traces.{Admits}
 use Rattle.trace.specs.Cuts.{Positions, In, Inside, Laws, SyncWants, HappensBeforeWants, SchedulableWants}
 use Rattle.trace.specs.Cuts.SyncWants.{last_write, earlier_release}
 use Rattle.trace.specs.Cuts.HappensBeforeWants.{release_before}
-use Rattle.trace.specs.Cuts.SchedulableWants.{as_before, last_write as Read-of}
+use Rattle.trace.specs.Cuts.SchedulableWants.{as_before, last_write as of_read}
 use Rattle.trace.proofs.Events.{at_longer, at_shorter, last_write_longer, last_write_shorter, release_longer, release_shorter}
 use Rattle.trace.proofs.Releases.{release_before_next}
 
@@ -19,7 +19,7 @@ before_earlier t c w (release_before {a} i lt p q ie if same) = (a, i, lt)
 
 schedulable_earlier : (t : List Event) (c : Positions) (w : ℕ) → SchedulableWants t c w → (k : ℕ) × In k c × (w < k)
 schedulable_earlier t c w (as_before h) = before_earlier t c w h
-schedulable_earlier t c w (Read-of {k} i lw) = (k, i, lw.before)
+schedulable_earlier t c w (of_read {k} i lw) = (k, i, lw.before)
 
 -- a greater cut wants no less
 sync_more : (t : List Event) (c d : Positions) (w : ℕ) → Inside c d → SyncWants t c w → SyncWants t d w
@@ -31,7 +31,7 @@ before_more t c d w sub (release_before {a} i lt p q ie if same) = release_befor
 
 schedulable_more : (t : List Event) (c d : Positions) (w : ℕ) → Inside c d → SchedulableWants t c w → SchedulableWants t d w
 schedulable_more t c d w sub (as_before h) = as_before (before_more t c d w sub h)
-schedulable_more t c d w sub (Read-of {k} i lw) = Read-of (sub k i) lw
+schedulable_more t c d w sub (of_read {k} i lw) = of_read (sub k i) lw
 
 module _ (t u : List Event) (c : Positions) (inside : (k : ℕ) → In k c → k < length t) where
   -- a cut wants in a trace just what it wants in a longer one
@@ -58,11 +58,11 @@ module _ (t u : List Event) (c : Positions) (inside : (k : ℕ) → In k c → k
 
   schedulable_shorter : (w : ℕ) → SchedulableWants (t ++ u) c w → SchedulableWants t c w
   schedulable_shorter w (as_before h) = as_before (before_shorter w h)
-  schedulable_shorter w (Read-of {k} i lw) = Read-of i (last_write_shorter t u k w (inside k i) lw)
+  schedulable_shorter w (of_read {k} i lw) = of_read i (last_write_shorter t u k w (inside k i) lw)
 
   schedulable_longer : (w : ℕ) → SchedulableWants t c w → SchedulableWants (t ++ u) c w
   schedulable_longer w (as_before h) = as_before (before_longer w h)
-  schedulable_longer w (Read-of {k} i lw) = Read-of i (last_write_longer t u k w lw)
+  schedulable_longer w (of_read {k} i lw) = of_read i (last_write_longer t u k w lw)
 
 -- so the sync rule keeps the laws, and so do the other two
 pub sync_laws : Laws SyncWants

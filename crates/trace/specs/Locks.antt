@@ -1,21 +1,14 @@
--- What the table of lock states says.
-use Rattle.std.specs.Prelude.{◌≡◌, ℕ, false, cond, List, [], ◌∷◌, ◌++◌, is_ok, Some, None, Option, Result, slice_index_or}
+-- What the table of lock holders says.
+use Rattle.std.specs.Prelude.{◌≡◌, ℕ, false, cond, List, [], ◌∷◌, ◌++◌, is_ok, None, Result, slice_index_or}
 use Rattle.trace.specs.declared.event.Event.{Event}
-use Rattle.trace.specs.declared.locks.LockState.{LockState}
-use Rattle.trace.specs.declared.locks.LockState.TheVariants.{Free, Held}
 use Rattle.trace.specs.declared.locks.TraceFault.{TraceFault}
 use Rattle.trace.specs.declared.locks.LockTable.{LockTable}
 use Rattle.trace.specs.Faults.{trace_number, refusal_in}
 use Rattle.trace.specs.Traces.{Holders, holders_after, trace_refusal}
 
--- the thread that holds a lock in a state
-abbrev pub holder : LockState → Option ℕ
-holder Free = None
-holder (Held thread) = Some thread
-
 -- the holders that the table has
 abbrev pub holders : LockTable → Holders
-holders table l = holder (slice_index_or table.states l Free)
+holders table l = slice_index_or table.holders l None
 
 -- the table has the holders at the end of the trace t
 abbrev pub Tells : LockTable → List Event → Type 0

@@ -2,6 +2,7 @@
 #![tactic(auto)]
 
 pub mod event;
+pub mod fault;
 pub mod kind;
 pub mod limits;
 pub mod locks;

@@ -1,14 +1,7 @@
-//! The state of each lock, and the trace check: only a free lock is acquired, and only its holder releases it.
+//! Who holds each lock, and the trace check: only a free lock is acquired, and only its holder releases it.
 ghost use Rattle.std.specs.Prelude.{◌≡◌, length};
 
 mod methods;
-
-/// A lock is free, or one thread holds it.
-#[derive(Clone, Copy, PartialEq, Eq, Debug)]
-pub enum LockState {
-    Free,
-    Held(u8),
-}
 
 /// Why an event cannot come next.
 #[derive(Clone, Copy, PartialEq, Eq, Debug)]
@@ -19,9 +12,10 @@ pub enum TraceFault {
     NotHolder,
 }
 
-/// The state of each lock, by its number.
+/// The thread that holds each lock, if one does, by the number of the lock.
 #[derive(Clone, Copy)]
 pub struct LockTable {
-    states: [LockState; 64],
-    ghost whole: { length states ≡ 64 },
+    // an array, since there is no heap
+    holders: [Option<u8>; 64],
+    ghost whole: { length holders ≡ 64 },
 }

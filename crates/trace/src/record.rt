@@ -3,8 +3,11 @@ ghost use Rattle.std.specs.Prelude.{◌≡◌, Ok};
 ghost use Rattle.trace.specs.declared.event.Event.{Event};
 ghost use Rattle.trace.specs.Records.{number, kind_of, event_of, meaning, record_of};
 ghost use Rattle.trace.specs.Faults.{record_number, told};
+ghost use Rattle.trace.specs.declared.record.RecordFault.TheVariants.{Kind as Unknown};
+ghost use Rattle.std.specs.Option.{ok_or};
 
 use crate::event::Event;
+use crate::fault::Fault;
 use crate::kind::Kind;
 use crate::limits::THREADS;
 
@@ -24,11 +27,10 @@ pub enum RecordFault {
     Subject,
 }
 
-impl RecordFault {
-    /// The number of the refusal.
-    pub fn number(self) -> u8
-        ensures { result ≡ record_number self }
-    {
+impl Fault for RecordFault {
+    ghost number = { record_number };
+
+    fn number(self) -> u8 {
         match self {
             RecordFault::Length => 1,
             RecordFault::Kind => 2,
@@ -39,27 +41,33 @@ impl RecordFault {
 }
 
 /// The number of a kind.
-fn number_of(kind: Kind) -> u8
-    ensures { result ≡ number kind }
-{
-    match kind {
-        Kind::Read => 1,
-        Kind::Write => 2,
-        Kind::Acquire => 3,
-        Kind::Release => 4,
+impl From<Kind> for u8 {
+    ghost from_gives = { λ kind n. n ≡ number kind };
+
+    fn from(kind: Kind) -> u8 {
+        match kind {
+            Kind::Read => 1,
+            Kind::Write => 2,
+            Kind::Acquire => 3,
+            Kind::Release => 4,
+        }
     }
 }
 
 /// The kind with a number.
-fn kind_of(byte: u8) -> Option<Kind>
-    ensures { result ≡ kind_of byte }
-{
-    match byte {
-        1 => Some(Kind::Read),
-        2 => Some(Kind::Write),
-        3 => Some(Kind::Acquire),
-        4 => Some(Kind::Release),
-        _ => None,
+impl TryFrom<u8> for Kind {
+    type Error = RecordFault;
+
+    ghost try_from_gives = { λ n r. r ≡ ok_or (kind_of n) Unknown };
+
+    fn try_from(byte: u8) -> Result<Kind, RecordFault> {
+        match byte {
+            1 => Ok(Kind::Read),
+            2 => Ok(Kind::Write),
+            3 => Ok(Kind::Acquire),
+            4 => Ok(Kind::Release),
+            _ => Err(RecordFault::Kind),
+        }
     }
 }
 
@@ -88,7 +96,7 @@ pub fn decode(record: &[u8]) -> Result<Event, RecordFault>
 {
     match record {
         [kind, thread, low, high, a, b, c, d] => {
-            let kind = kind_of(*kind).ok_or(RecordFault::Kind)?;
+            let kind = Kind::try_from(*kind)?;
             let subject = u16::from_le_bytes([*low, *high]);
             let site = u32::from_le_bytes([*a, *b, *c, *d]);
             event_of(kind, *thread, subject, site)
@@ -105,5 +113,5 @@ pub fn encode(event: &Event) -> [u8; 8]
     let site = event.site;
     let [low, high] = event.subject.to_le_bytes();
     let [a, b, c, d] = site.to_le_bytes();
-    [number_of(event.kind), event.thread, low, high, a, b, c, d]
+    [u8::from(event.kind), event.thread, low, high, a, b, c, d]
 }

@@ -1,4 +1,5 @@
 //! Records and the lock table on a few examples.
+use crate::fault::Fault;
 use crate::kind::Kind;
 use crate::locks::LockTable;
 use crate::record::{decode, encode, event_of};
@@ -6,10 +7,7 @@ use std::test::Fail;
 
 /// The number of the refusal of some bytes.
 fn refusal(bytes: &[u8]) -> Option<u8> {
-    match decode(bytes) {
-        Ok(_) => None,
-        Err(fault) => Some(fault.number()),
-    }
+    decode(bytes).err().map(|fault| fault.number())
 }
 
 #[test]

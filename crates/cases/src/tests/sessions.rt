@@ -1,5 +1,5 @@
 //! Further answers of sessions: events read back, dumps with a refused record, full reels, lists with damaged positions, short buffers.
-use super::{READ, RELEASE, WRITE, record, record_of, refused, session_over};
+use super::{record, record_of, refused, session_over};
 use answer::collector::BufferFault;
 use answer::fault::{Layer, PairFault};
 use answer::verdict::PartnersFault;
@@ -9,12 +9,13 @@ use reel::host::HostReel;
 use session::session::Session;
 use std::process::Abort;
 use std::test::Fail;
+use trace::kind::Kind;
 
 /// Events are read back as recorded, at a session with room for two events at least.
 fn keeps<R: Reel + Drop>(rt: &impl Abort, reel: R) -> Result<(), Fail> {
     let mut session = Session::open(reel);
     session.enter(&record_of("0a0")?)?;
-    session.enter(&record(WRITE, 15, 1023))?;
+    session.enter(&record(Kind::Write, 15, 1023))?;
     assert_eq!(rt; session.count(), 2);
     let Some(event) = session.event(1) else {
         return Err(Fail::new("no event"));
@@ -62,13 +63,19 @@ fn full<R: Reel + Drop>(rt: &impl Abort, reel: R, room: usize) {
     let mut session = Session::open(reel);
     assert_eq!(rt; session.capacity(), room);
     for _ in 0..room {
-        assert_eq!(rt; refused(session.enter(&record(READ, 0, 0))), None);
+        assert_eq!(rt; refused(session.enter(&record(Kind::Read, 0, 0))), None);
     }
     let reel_full = Some((7, Layer::Reel, 0));
-    assert_eq!(rt; refused(session.enter(&record(READ, 0, 0))), reel_full);
-    assert_eq!(rt; refused(session.load(&record(READ, 0, 0))), reel_full);
+    assert_eq!(rt;
+        refused(session.enter(&record(Kind::Read, 0, 0))),
+        reel_full
+    );
+    assert_eq!(rt; refused(session.load(&record(Kind::Read, 0, 0))), reel_full);
     let not_holder = Some((6, Layer::Trace, 0));
-    assert_eq!(rt; refused(session.enter(&record(RELEASE, 0, 0))), not_holder);
+    assert_eq!(rt;
+        refused(session.enter(&record(Kind::Release, 0, 0))),
+        not_holder
+    );
     assert_eq!(rt; session.count(), room);
 }
 

@@ -1,98 +1,84 @@
 //! What is listed: Partners and Sweep.
-use crate::compare::BLANK;
-use crate::places::PLACES;
-use crate::search::Finding;
-use crate::steps::Step;
-use crate::tally::Tally;
+use crate::compare::{BLANK, Comparison, PLACES};
 use answer::verdict::RacePair;
 use reel::Reel;
-use session::session::Session;
-use std::alloc::{AllocError, Global};
+use std::alloc::AllocError;
 
 /// How many pairs of positions below 16 there are.
 const PAIRS: usize = 120;
 
 /// Whether the buffer begins with the list, and has blanks after it.
 fn holds<T: PartialEq>(buffer: &[T], list: &[T], blank: &T) -> bool {
-    for (i, entry) in buffer.iter().enumerate() {
-        let expected = match list.get(i) {
-            Some(listed) => listed,
-            None => blank,
+    buffer
+        .strip_prefix(list)
+        .is_some_and(|rest| rest.iter().all(|entry| *entry == *blank))
+}
+
+/// Whether the call fills the first entries of the blank buffer with the list, and answers how many these are.
+fn lists<T: PartialEq, E: Drop, F: FnOnce(&mut [T]) -> Result<usize, E>>(
+    buffer: &mut [T],
+    call: F,
+    list: &[T],
+    blank: &T,
+) -> bool
+    requires { F.IsAlwaysCallable call }
+{
+    call(buffer).is_ok_and(|count| count == list.len()) && holds(buffer, list, blank)
+}
+
+impl<R: Reel> Comparison<'_, R> {
+    /// Compares the partners of q, which are the positions that race with it, ascending.
+    fn compare_partners(&mut self, q: u16) -> Result<(), AllocError> {
+        let partners: Vec<u16> = self
+            .search
+            .findings
+            .iter()
+            .filter(|finding| finding.second.position == q && finding.is_race())
+            .map(|finding| finding.first.position)
+            .collect(self.search.heap)?;
+        let session = self.session;
+        let same = lists(
+            &mut [BLANK; PLACES],
+            |buffer| session.partners(usize::from(q), buffer),
+            partners.as_slice(),
+            &BLANK,
+        );
+        self.tally.compare(same);
+        Ok(())
+    }
+
+    /// Compares the sweep, which is the racing pairs, by the later and then the earlier position.
+    fn compare_sweep(&mut self) -> Result<(), AllocError> {
+        let races: Vec<RacePair> = self
+            .search
+            .findings
+            .iter()
+            .filter(|finding| finding.is_race())
+            .map(|finding| RacePair {
+                first: finding.first.position,
+                second: finding.second.position,
+            })
+            .collect(self.search.heap)?;
+        let blank = RacePair {
+            first: BLANK,
+            second: BLANK,
         };
-        if *entry != *expected {
-            return false;
+        let session = self.session;
+        let same = lists(
+            &mut [blank; PAIRS],
+            |buffer| session.sweep(buffer),
+            races.as_slice(),
+            &blank,
+        );
+        self.tally.compare(same);
+        Ok(())
+    }
+
+    /// Compares the partners of each position, and the sweep.
+    pub(super) fn compare_lists(&mut self) -> Result<(), AllocError> {
+        for step in self.search.trace {
+            self.compare_partners(step.position)?;
         }
+        self.compare_sweep()
     }
-    list.len() <= buffer.len()
-}
-
-/// The positions that race with q, ascending.
-fn partners_of(heap: Global, findings: &[Finding], q: u16) -> Result<Vec<u16>, AllocError> {
-    let mut partners = Vec::new(heap);
-    for finding in findings {
-        if finding.second.position == q && finding.shown.is_some() {
-            partners.push(finding.first.position)?;
-        }
-    }
-    Ok(partners)
-}
-
-/// Compares the partners of q.
-fn compare_partners<R: Reel>(
-    heap: Global,
-    session: &Session<R>,
-    findings: &[Finding],
-    q: u16,
-    tally: &mut Tally,
-) -> Result<(), AllocError> {
-    let partners = partners_of(heap, findings, q)?;
-    let mut buffer = [BLANK; PLACES];
-    let count = session.partners(q as usize, &mut buffer).ok();
-    tally.compare(count == Some(partners.len()) && holds(&buffer, partners.as_slice(), &BLANK));
-    Ok(())
-}
-
-/// The racing pairs, by the later and then the earlier position.
-fn races_of(heap: Global, findings: &[Finding]) -> Result<Vec<RacePair>, AllocError> {
-    let mut races = Vec::new(heap);
-    for finding in findings {
-        if finding.shown.is_some() {
-            let first = finding.first.position;
-            let second = finding.second.position;
-            races.push(RacePair { first, second })?;
-        }
-    }
-    Ok(races)
-}
-
-/// Compares the sweep.
-fn compare_sweep<R: Reel>(
-    heap: Global,
-    session: &Session<R>,
-    findings: &[Finding],
-    tally: &mut Tally,
-) -> Result<(), AllocError> {
-    let races = races_of(heap, findings)?;
-    let blank = RacePair {
-        first: BLANK,
-        second: BLANK,
-    };
-    let mut buffer = [blank; PAIRS];
-    let count = session.sweep(&mut buffer).ok();
-    tally.compare(count == Some(races.len()) && holds(&buffer, races.as_slice(), &blank));
-    Ok(())
-}
-
-/// Compares the partners of each position, and the sweep.
-pub(super) fn compare_lists<R: Reel>(
-    heap: Global,
-    session: &Session<R>,
-    findings: &[Finding],
-    trace: &[Step],
-    tally: &mut Tally,
-) -> Result<(), AllocError> {
-    for step in trace {
-        compare_partners(heap, session, findings, step.position, tally)?;
-    }
-    compare_sweep(heap, session, findings, tally)
 }

@@ -1,52 +1,30 @@
 //! What Vet says of some lists that the search met, and of the same from back to front.
-use crate::compare::pairs::leaves;
-use crate::search::Finding;
+use crate::compare::Comparison;
 use crate::steps::Step;
-use crate::tally::Tally;
 use reel::Reel;
-use session::session::Session;
-use std::alloc::{AllocError, Global};
+use std::alloc::AllocError;
 
-/// The positions of the steps of a list.
-fn positions_of(heap: Global, list: &[Step]) -> Result<Vec<u16>, AllocError> {
-    let mut positions = Vec::new(heap);
-    for step in list {
-        positions.push(step.position)?;
+impl<R: Reel> Comparison<'_, R> {
+    /// Compares what Vet says of the list, for each pair.
+    fn compare_vet(&mut self, list: &[Step]) -> Result<(), AllocError> {
+        let search = self.search;
+        let positions: Vec<u16> = list.iter().map(|step| step.position).collect(search.heap)?;
+        for finding in &search.findings {
+            let (p, q) = finding.positions();
+            let answer = self.session.vet(p, q, positions.as_slice());
+            self.tally.compare(answer == Ok(finding.is_left_by(list)));
+        }
+        Ok(())
     }
-    Ok(positions)
-}
 
-/// Compares what Vet says of the list, for each pair.
-fn compare_vet<R: Reel>(
-    heap: Global,
-    session: &Session<R>,
-    findings: &[Finding],
-    list: &[Step],
-    tally: &mut Tally,
-) -> Result<(), AllocError> {
-    let positions = positions_of(heap, list)?;
-    for finding in findings {
-        let p = finding.first.position as usize;
-        let q = finding.second.position as usize;
-        let answer = session.vet(p, q, positions.as_slice());
-        tally.compare(answer == Ok(leaves(list, finding)));
+    /// Compares what Vet says of each sample, and of the sample from back to front.
+    pub(super) fn compare_vets(&mut self) -> Result<(), AllocError> {
+        let search = self.search;
+        for sample in &search.samples {
+            self.compare_vet(sample.as_slice())?;
+            let reversed: Vec<Step> = sample.iter().rev().copied().collect(search.heap)?;
+            self.compare_vet(reversed.as_slice())?;
+        }
+        Ok(())
     }
-    Ok(())
-}
-
-/// Compares what Vet says of each sample, and of the sample from back to front.
-pub(super) fn compare_vets<R: Reel>(
-    heap: Global,
-    session: &Session<R>,
-    findings: &[Finding],
-    samples: &[Vec<Step>],
-    tally: &mut Tally,
-) -> Result<(), AllocError> {
-    for sample in samples {
-        compare_vet(heap, session, findings, sample.as_slice(), tally)?;
-        let mut reversed = Vec::from_slice(heap, sample.as_slice())?;
-        reversed.reverse();
-        compare_vet(heap, session, findings, reversed.as_slice(), tally)?;
-    }
-    Ok(())
 }

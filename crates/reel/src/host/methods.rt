@@ -10,6 +10,8 @@ use crate::{Reel, ReelFault};
 use trace::event::Event;
 use trace::record::{decode, encode};
 
+// `bytes` and `lender` stand in three contracts: they compare what is lent before and after a call, which no invariant of the type can
+
 impl<'a> HostReel<'a> {
     /// An empty reel over the bytes.
     pub fn over(bytes: &'a mut [u8]) -> HostReel<'a>

@@ -1,49 +1,35 @@
-use Rattle.std.proofs.Common.{refl}
-use Rattle.std.proofs.lemmas.Result.{IfOk-weaker}
+use Rattle.std.proofs.Common.{rules}
 use Rattle.run.specs.Runs.Replies.{entered, loaded, judged}
+use Rattle.run.proofs.Running.{witness_reply, partners_reply, sweep_reply}
 use Rattle.run.proofs.reply_to.Goals as goal
 
-pub returns-in-Enter : goal.returns-in-Enter
-returns-in-Enter g c =
-    let is = c.as_slice.ensures.value in
-    let taken = rw is at c.enter.ensures.takes in
-    rw c.in-Enter.is
-    (record { replies = λ s. entered (taken s).answer; events = λ s. ((taken s).events, (taken s).stands); room = c.enter.ensures.room })
+pub returns-in-Enter-clause-replies : goal.returns-in-Enter-clause-replies
+returns-in-Enter-clause-replies g c =
+    let taken = rw c.as_slice.ensures.value at c.enter.ensures in
+    rw c.in-Enter.is (entered taken.answer)
 
-pub returns-in-Load : goal.returns-in-Load
-returns-in-Load g c =
-    let is = c.as_slice-in-Load.ensures.value in
-    let taken = rw is at c.load.ensures.takes in
-    rw c.in-Load.is
-    (record { replies = λ s. loaded (taken s).answer; events = λ s. ((taken s).events, (taken s).stands); room = c.load.ensures.room })
+pub returns-in-Load-clause-replies : goal.returns-in-Load-clause-replies
+returns-in-Load-clause-replies g c =
+    let taken = rw c.as_slice-in-Load.ensures.value at c.load.ensures in
+    rw c.in-Load.is (loaded taken.answer)
 
-pub returns-in-Judge : goal.returns-in-Judge
-returns-in-Judge g c =
-    rw c.in-Judge.is (record { replies = λ s. judged (c.judge.ensures.races s); events = λ s. (refl, s); room = refl })
+pub returns-in-Judge-clause-replies : goal.returns-in-Judge-clause-replies
+returns-in-Judge-clause-replies g c = rw c.in-Judge.is (judged c.judge.ensures.races)
 
-pub returns-in-Witness : goal.returns-in-Witness
-returns-in-Witness g c =
-    rw c.in-Witness.is
-    (record {
-      replies = λ s. c.witness.ensures _ s;
-      events = λ s. IfOk-weaker c.witness.result _ _ (λ x h. (refl, s)) (c.witness.ensures 0 s);
-      room = refl;
-    })
+pub returns-in_ok-answer-in-Witness-clause-replies : goal.returns-in_ok-answer-in-Witness-clause-replies
+returns-in_ok-answer-in-Witness-clause-replies g c =
+    let filled = c.in_ok-answer-in-Witness.ensures in
+    let met = filled.met in
+    rw c.in-Witness.is (witness_reply _ _ filled.shows filled.leaves (search rules))
 
-pub returns-in-Partners : goal.returns-in-Partners
-returns-in-Partners g c =
-    rw c.in-Partners.is
-    (record {
-      replies = λ s. c.partners.ensures _ s;
-      events = λ s. IfOk-weaker c.partners.result _ _ (λ x h. (refl, s)) (c.partners.ensures 0 s);
-      room = refl;
-    })
+pub returns-in_ok-answer-in-Partners-clause-replies : goal.returns-in_ok-answer-in-Partners-clause-replies
+returns-in_ok-answer-in-Partners-clause-replies g c =
+    let filled = c.in_ok-answer-in-Partners.ensures in
+    let met = filled.met in
+    rw c.in-Partners.is (partners_reply _ _ filled.shows filled.leaves (search rules))
 
-pub returns-in-Sweep : goal.returns-in-Sweep
-returns-in-Sweep g c =
-    rw c.in-Sweep.is
-    (record {
-      replies = λ s. c.sweep.ensures _ s;
-      events = λ s. IfOk-weaker c.sweep.result _ _ (λ x h. (refl, s)) (c.sweep.ensures 0 s);
-      room = refl;
-    })
+pub returns-in_ok-answer-in-Sweep-clause-replies : goal.returns-in_ok-answer-in-Sweep-clause-replies
+returns-in_ok-answer-in-Sweep-clause-replies g c =
+    let filled = c.in_ok-answer-in-Sweep.ensures in
+    let met = filled.met in
+    rw c.in-Sweep.is (sweep_reply _ _ filled.shows filled.leaves (search rules))

@@ -1,8 +1,7 @@
 //! Lists of racing pairs.
-ghost use Rattle.std.specs.Prelude.{◌≡◌, ℕ, List, ◌++◌, map};
-ghost use Rattle.trace.specs.Traces.{Admits};
-ghost use Rattle.session.specs.Entries.{Stands};
-ghost use Rattle.answer.specs.Buffers.{Filled, Collecting};
+ghost use Rattle.std.specs.Prelude.{ℕ, List, map};
+ghost use Rattle.answer.specs.Buffers.{Filled};
+ghost use Rattle.answer.specs.Collectors.{Adds};
 ghost use Rattle.session.specs.Races.{PartnersOf, Partnered, SweepOf, Swept};
 ghost use Rattle.answer.specs.declared.verdict.RacePair.{RacePair as Pair};
 
@@ -16,17 +15,16 @@ use reel::Reel;
 impl<R: Reel> Session<R> {
     /// Collects the partners of q, ascending.
     pub(super) fn collect_partners<T: Entry>(&self, q: usize, out: &mut Collector<'_, T>)
-        ensures partners { let t = R.Reel.events self.now.reel in (Admits t → (ps : List ℕ) × PartnersOf t q ps × ((before list : List T)
-            → Collecting before list out.old.entries.now out.old.count out.old.full
-            → Collecting before (list ++ map (λ p. T.Entry.entry p q) ps) out.new.entries.now out.new.count out.new.full)) }
-        ensures lender { out.new.entries.ghost_name ≡ out.old.entries.ghost_name }
+        ensures { (ps : List ℕ) × PartnersOf self.now.trace q ps × Adds (map (λ p. T.Entry.entry p q) ps) out.old out.new }
     {
-        if q >= self.reel.count() {
+        if q >= self.count() {
             return;
         }
         let base = closure_before(&SyncRule {}, &self.reel, &[q]);
+        // a range, since positions are what is asked about; as a chain, its last closure would change the collector that it captures, no plainer
         for p in 0..q {
             if self.races_beyond(&base, p, q) {
+                // casts, since every position fits, and a `try_from` would need an answer for one that does not
                 out.push(T::of(p as u16, q as u16));
             }
         }
@@ -34,7 +32,7 @@ impl<R: Reel> Session<R> {
 
     /// Writes the partners of q, ascending.
     fn write_partners(&self, q: usize, buffer: &mut [u16]) -> Result<usize, BufferFault>
-        ensures { let t = R.Reel.events self.now.reel in (Admits t → (ps : List ℕ) × PartnersOf t q ps × Filled ps buffer.old result buffer.new) }
+        ensures { (ps : List ℕ) × PartnersOf self.now.trace q ps × Filled ps buffer.old result buffer.new }
     {
         let mut out = Collector::over(buffer);
         self.collect_partners(q, &mut out);
@@ -43,9 +41,9 @@ impl<R: Reel> Session<R> {
 
     /// Partners: writes every position below q that races with q, ascending, and answers how many they are.
     pub fn partners(&self, q: usize, buffer: &mut [u16]) -> Result<usize, PartnersFault>
-        ensures { let t = R.Reel.events self.now.reel in (Stands self.now.locks t → Partnered t q buffer.old result buffer.new) }
+        ensures { Partnered self.now.trace q buffer.old result buffer.new }
     {
-        if q >= self.reel.count() {
+        if q >= self.count() {
             return Err(PartnersFault::NoEvent);
         }
         Ok(self.write_partners(q, buffer)?)
@@ -53,19 +51,17 @@ impl<R: Reel> Session<R> {
 
     /// Collects every racing pair, by the later and then the earlier position.
     fn collect_sweep(&self, out: &mut Collector<'_, RacePair>)
-        ensures pairs { let t = R.Reel.events self.now.reel in (Admits t → (xs : List Pair) × SweepOf t xs × ((before list : List Pair)
-            → Collecting before list out.old.entries.now out.old.count out.old.full
-            → Collecting before (list ++ xs) out.new.entries.now out.new.count out.new.full)) }
-        ensures lender { out.new.entries.ghost_name ≡ out.old.entries.ghost_name }
+        ensures { (xs : List Pair) × SweepOf self.now.trace xs × Adds xs out.old out.new }
     {
-        for q in 0..self.reel.count() {
+        // a range, as in `collect_partners`
+        for q in 0..self.count() {
             self.collect_partners(q, out);
         }
     }
 
     /// Sweep: writes every racing pair, by the later and then the earlier position, and answers how many they are.
     pub fn sweep(&self, buffer: &mut [RacePair]) -> Result<usize, BufferFault>
-        ensures { let t = R.Reel.events self.now.reel in (Stands self.now.locks t → Swept t buffer.old result buffer.new) }
+        ensures { Swept self.now.trace buffer.old result buffer.new }
     {
         let mut out = Collector::over(buffer);
         self.collect_sweep(&mut out);

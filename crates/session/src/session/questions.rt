@@ -2,7 +2,6 @@
 ghost use Rattle.std.specs.Prelude.{◌≡◌};
 ghost use Rattle.trace.specs.Faults.{refusal_in};
 ghost use Rattle.answer.specs.Faults.{pair_number};
-ghost use Rattle.session.specs.Entries.{Stands};
 ghost use Rattle.session.specs.Questions.{pair_refusal, Answers, Vetted, Unordered, NotBefore, Schedulable, NotScheduledBefore};
 
 use crate::session::Session;
@@ -15,8 +14,9 @@ use reorder::vet::leaves;
 
 impl<R: Reel> Session<R> {
     /// Whether the two positions can be asked about.
+    // p and q stay two parameters, here and in the calls: a struct of any two positions would be made by each caller, no plainer
     pub(super) fn check_pair(&self, p: usize, q: usize) -> Result<(), PairFault>
-        ensures { let t = R.Reel.events self.now.reel in refusal_in pair_number result ≡ pair_refusal t p q }
+        ensures { refusal_in pair_number result ≡ pair_refusal self.now.trace p q }
     {
         let first = self.reel.event(p).ok_or(PairFault::NoEvent)?;
         let second = self.reel.event(q).ok_or(PairFault::NoEvent)?;
@@ -31,7 +31,7 @@ impl<R: Reel> Session<R> {
 
     /// Vet: whether the list is a sync-preserving correct reordering that leaves the events at p and q enabled.
     pub fn vet(&self, p: usize, q: usize, list: &[u16]) -> Result<bool, PairFault>
-        ensures { let t = R.Reel.events self.now.reel in Answers t p q (Vetted t p q list.now) result }
+        ensures { let t = self.now.trace in Answers t p q (Vetted t p q list.now) result }
     {
         self.check_pair(p, q)?;
         Ok(leaves(&self.reel, &[p, q], list))
@@ -39,8 +39,8 @@ impl<R: Reel> Session<R> {
 
     /// Unordered: whether the event at p does not happen before the event at q.
     pub fn unordered(&self, p: usize, q: usize) -> Result<bool, PairFault>
-        ensures closure { let t = R.Reel.events self.now.reel in (Stands self.now.locks t → Answers t p q (Unordered t p q) result) }
-        ensures order { let t = R.Reel.events self.now.reel in (Stands self.now.locks t → Answers t p q (NotBefore t p q) result) }
+        ensures closure { let t = self.now.trace in Answers t p q (Unordered t p q) result }
+        ensures order { let t = self.now.trace in Answers t p q (NotBefore t p q) result }
     {
         self.check_pair(p, q)?;
         let before = closure(&HappensBeforeRule {}, &self.reel, &[q]);
@@ -49,10 +49,11 @@ impl<R: Reel> Session<R> {
 
     /// Schedulable: whether the event at q has no previous event, or the event at p is not before that in schedulable happens-before.
     pub fn schedulable(&self, p: usize, q: usize) -> Result<bool, PairFault>
-        ensures closure { let t = R.Reel.events self.now.reel in (Stands self.now.locks t → Answers t p q (Schedulable t p q) result) }
-        ensures order { let t = R.Reel.events self.now.reel in (Stands self.now.locks t → Answers t p q (NotScheduledBefore t p q) result) }
+        ensures closure { let t = self.now.trace in Answers t p q (Schedulable t p q) result }
+        ensures order { let t = self.now.trace in Answers t p q (NotScheduledBefore t p q) result }
     {
         self.check_pair(p, q)?;
+        // a match, as in reorder's `has_previous`: a proof is told nothing of the cut that is made inside a closure of `is_none_or`
         match previous(&self.reel, q) {
             None => Ok(true),
             Some(last) => {

@@ -1,12 +1,12 @@
 //! Races: Judge and Witness.
-ghost use Rattle.std.specs.Prelude.{◌≡◌, ℕ, true, ◌↔◌, List, [], ◌∷◌, ◌++◌, length, None};
+ghost use Rattle.std.specs.Prelude.{◌≡◌, true, ◌↔◌, [], ◌∷◌, length, None};
 ghost use Rattle.trace.specs.Traces.{Admits};
 ghost use Rattle.session.specs.Questions.{pair_refusal};
-ghost use Rattle.session.specs.Entries.{Stands};
 ghost use Rattle.trace.specs.Lookups.{previous_events};
 ghost use Rattle.trace.specs.Cuts.{SyncWants, listed};
 ghost use Rattle.predict.specs.Held.{held, Closes};
-ghost use Rattle.answer.specs.Buffers.{Filled, Collecting};
+ghost use Rattle.answer.specs.Buffers.{Filled};
+ghost use Rattle.answer.specs.Collectors.{Adds};
 ghost use Rattle.session.specs.Races.{RacingPair, Witness, Shows, Witnessed, Races, OutsideSync, FoundRace, Judged};
 
 use crate::session::Session;
@@ -15,26 +15,23 @@ use answer::fault::PairFault;
 use answer::verdict::{Verdict, WitnessFault};
 use predict::closure::{closure_before, closure_before_from};
 use predict::cut::Cut;
-use predict::lookup::{is_inside, is_outside};
+use predict::lookup::is_outside;
 use predict::rules::SyncRule;
 use reel::Reel;
 
 impl<R: Reel> Session<R> {
     /// The sync closure of the previous events of p and q, if the two race.
     pub(super) fn race(&self, p: usize, q: usize) -> Option<Cut>
-        ensures { let t = R.Reel.events self.now.reel in (Admits t → None ≡ pair_refusal t p q → FoundRace t p q result) }
+        ensures found { let t = self.now.trace in (None ≡ pair_refusal t p q → FoundRace t p q result) }
+        ensures admitted { Admits self.now.trace }
     {
         let before = closure_before(&SyncRule {}, &self.reel, &[p, q]);
-        if is_outside(&self.reel, &before, p) {
-            Some(before)
-        } else {
-            None
-        }
+        is_outside(&self.reel, &before, p).then_some(before)
     }
 
     /// Whether p races with q, where `base` is the sync closure of the previous event of q, which every closure for q has inside.
     pub(super) fn races_beyond(&self, base: &Cut, p: usize, q: usize) -> bool
-        ensures { let t = R.Reel.events self.now.reel in (Admits t → Closes SyncWants t (previous_events t (q ∷ [])) base.now.bounds → (result ≡ true) ↔ RacingPair t p q) }
+        ensures { let t = self.now.trace in (Closes SyncWants t (previous_events t (q ∷ [])) base.now.bounds → (result ≡ true) ↔ RacingPair t p q) }
     {
         if self.check_pair(p, q).is_err() {
             return false;
@@ -48,10 +45,11 @@ impl<R: Reel> Session<R> {
 
     /// Judge: whether the events at p and q race.
     pub fn judge(&self, p: usize, q: usize) -> Result<Verdict, PairFault>
-        ensures closure { let t = R.Reel.events self.now.reel in (Stands self.now.locks t → Judged t p q (OutsideSync t p q) result) }
-        ensures races { let t = R.Reel.events self.now.reel in (Stands self.now.locks t → Judged t p q (Races t p q) result) }
+        ensures closure { let t = self.now.trace in Judged t p q (OutsideSync t p q) result }
+        ensures races { let t = self.now.trace in Judged t p q (Races t p q) result }
     {
         self.check_pair(p, q)?;
+        // a match on what was found, since a bool between, and a `From` for it, would be no plainer
         match self.race(p, q) {
             Some(_) => Ok(Verdict::Race),
             None => Ok(Verdict::NoRace),
@@ -60,21 +58,21 @@ impl<R: Reel> Session<R> {
 
     /// Collects the positions that the cut has, ascending.
     fn collect_cut(&self, cut: &Cut, out: &mut Collector<'_, u16>)
-        ensures collects { let t = R.Reel.events self.now.reel in ((before list : List ℕ)
-            → Collecting before list out.old.entries.now out.old.count out.old.full
-            → Collecting before (list ++ listed (held t cut.now.bounds) (length t)) out.new.entries.now out.new.count out.new.full) }
-        ensures lender { out.new.entries.ghost_name ≡ out.old.entries.ghost_name }
+        ensures { let t = self.now.trace in Adds (listed (held t cut.now.bounds) (length t)) out.old out.new }
     {
-        for position in 0..self.reel.count() {
-            if is_inside(&self.reel, cut, position) {
+        for (position, event) in self.reel.iter().enumerate() {
+            if cut.holds(position, &event) {
+                // a cast, since every position fits, and a `try_from` would need an answer for one that does not
                 out.push(position as u16);
             }
         }
     }
 
     /// Writes the positions that the cut has, ascending.
+    // not one function with `write_partners` and `sweep`, over a closure that collects: it might put another collector in the place of the one
+    // that it is lent, so that what the buffer then holds would not be known, and the proof would not close
     fn write_cut(&self, cut: &Cut, buffer: &mut [u16]) -> Result<usize, BufferFault>
-        ensures { let t = R.Reel.events self.now.reel in Filled (listed (held t cut.now.bounds) (length t)) buffer.old result buffer.new }
+        ensures { let t = self.now.trace in Filled (listed (held t cut.now.bounds) (length t)) buffer.old result buffer.new }
     {
         let mut out = Collector::over(buffer);
         self.collect_cut(cut, &mut out);
@@ -83,13 +81,11 @@ impl<R: Reel> Session<R> {
 
     /// Witness: writes the events of the sync closure of the previous events of p and q, in trace order, and answers how many they are.
     pub fn witness(&self, p: usize, q: usize, buffer: &mut [u16]) -> Result<usize, WitnessFault>
-        ensures closure { let t = R.Reel.events self.now.reel in (Stands self.now.locks t → Witnessed t p q (Witness t p q) buffer.old result buffer.new) }
-        ensures shows { let t = R.Reel.events self.now.reel in (Stands self.now.locks t → Witnessed t p q (Shows t p q) buffer.old result buffer.new) }
+        ensures closure { let t = self.now.trace in Witnessed t p q (Witness t p q) buffer.old result buffer.new }
+        ensures shows { let t = self.now.trace in Witnessed t p q (Shows t p q) buffer.old result buffer.new }
     {
         self.check_pair(p, q)?;
-        let Some(cut) = self.race(p, q) else {
-            return Err(WitnessFault::NoRace);
-        };
+        let cut = self.race(p, q).ok_or(WitnessFault::NoRace)?;
         Ok(self.write_cut(&cut, buffer)?)
     }
 }

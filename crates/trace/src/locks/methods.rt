@@ -1,17 +1,17 @@
-//! What the table of lock states does.
-ghost use Rattle.std.specs.Prelude.{◌≡◌, []};
+//! What the table of lock holders does.
+ghost use Rattle.std.specs.Prelude.{[]};
 ghost use Rattle.trace.specs.Faults.{trace_number};
 ghost use Rattle.trace.specs.Locks.{Tells, Turned};
 
 use crate::event::Event;
+use crate::fault::Fault;
 use crate::kind::Kind;
-use crate::locks::{LockState, LockTable, TraceFault};
+use crate::locks::{LockTable, TraceFault};
 
-impl TraceFault {
-    /// The number of the refusal.
-    pub fn number(self) -> u8
-        ensures { result ≡ trace_number self }
-    {
+impl Fault for TraceFault {
+    ghost number = { trace_number };
+
+    fn number(self) -> u8 {
         match self {
             TraceFault::AlreadyHeld => 5,
             TraceFault::NotHolder => 6,
@@ -25,7 +25,7 @@ impl LockTable {
         ensures { Tells result [] }
     {
         LockTable {
-            states: [LockState::Free; 64],
+            holders: [None; 64],
         }
     }
 
@@ -36,15 +36,15 @@ impl LockTable {
         if event.kind.is_access() {
             return Ok(());
         }
-        let lock = event.subject as usize;
-        match (self.states[lock], event.kind) {
-            (LockState::Free, Kind::Acquire) => {
-                self.states[lock] = LockState::Held(event.thread);
+        let lock = usize::from(event.subject);
+        match (self.holders[lock], event.kind) {
+            (None, Kind::Acquire) => {
+                self.holders[lock] = Some(event.thread);
                 Ok(())
             }
-            (LockState::Held(_), Kind::Acquire) => Err(TraceFault::AlreadyHeld),
-            (LockState::Held(holder), Kind::Release) if holder == event.thread => {
-                self.states[lock] = LockState::Free;
+            (Some(_), Kind::Acquire) => Err(TraceFault::AlreadyHeld),
+            (Some(holder), Kind::Release) if holder == event.thread => {
+                self.holders[lock] = None;
                 Ok(())
             }
             (_, Kind::Release) => Err(TraceFault::NotHolder),

@@ -1,5 +1,10 @@
+-- The pass stands at the next event.
+use Rattle.std.proofs.Common.{◌≡◌, drop}
+use Rattle.reel.specs.Passing.{left_of}
 use Rattle.predict.proofs.LockParts.{EndsSoFar}
 use Rattle.predict.proofs.locks.acquire_ends.Given as goal
 
 abbrev pub invariant-loop-k : goal.invariant-loop-k
-invariant-loop-k g l = EndsSoFar (g.R.Reel.events l.reel) l.cut.bounds l.k l.ends
+invariant-loop-k g l =
+    let t = g.R.Reel.events l.reel in
+    EndsSoFar t l.cut.bounds l.k l.ends × (left_of g.R.Reel.events l.event-iterator ≡ drop l.k t)

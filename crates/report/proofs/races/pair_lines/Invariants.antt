@@ -6,6 +6,6 @@ use Rattle.report.proofs.races.pair_lines.Given as goal
 
 abbrev pub invariant-loop-partner : goal.invariant-loop-partner
 invariant-loop-partner g l =
-    let t = g.R.Reel.events l.session.reel in
+    let t = l.session.trace in
     PartnersOf t l.q l.partners
     → RaceLines t (map (λ p. pair p l.q) (take l.partner-index l.partners)) (string_bytes l.text)

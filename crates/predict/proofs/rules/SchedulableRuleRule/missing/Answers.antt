@@ -1,13 +1,10 @@
-use Rattle.predict.proofs.RuleParts.{schedulable_first, schedulable_second}
+use Rattle.std.proofs.Common.{rules}
+use Rattle.predict.proofs.RuleParts.{schedulable_misses}
 use Rattle.predict.proofs.rules.SchedulableRuleRule.missing.Goals as goal
 
-pub returns-in-Some : goal.returns-in-Some
-returns-in-Some g c =
-    let h = schedulable_first (g.R.Reel.events c.args.reel.now) c.args.cut.now.bounds c.in-Some.release c.in-Some.ensures in
-    record { outside = h.outside; exact = λ ok. h.exact }
-
-pub returns-in-None : goal.returns-in-None
-returns-in-None g c =
-    let h = schedulable_second (g.R.Reel.events c.args.reel.now) c.args.cut.now.bounds c.in-None.ensures c.missing_write.result
-    c.missing_write.ensures in
-    record { outside = h.outside; exact = λ ok. h.exact }
+pub returns : goal.returns
+returns g c = record {
+  outside = search rules;
+  exact = λ ok. (schedulable_misses (g.R.Reel.events c.args.reel.now) c.args.cut.now.bounds c.missing.result c.or_else.result
+      (record { outside = c.missing.ensures.outside; exact = c.missing.ensures.exact ok }) (search rules)).exact;
+}

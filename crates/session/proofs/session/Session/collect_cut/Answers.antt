@@ -1,35 +1,30 @@
-use Rattle.std.proofs.Common.{length, sym, ◌∙◌, arith}
+use Rattle.std.proofs.Common.{◌≡◌, length, ◌∙◌, arith}
+use Rattle.reel.proofs.Left.{passes_some, passes_end}
 use Rattle.predict.specs.Held.{held}
-use Rattle.answer.proofs.Collecting.{collecting_more}
-use Rattle.session.proofs.Listings.{listing_more, listing_skip, listing_all}
+use Rattle.predict.proofs.Inside.{seen_first, seen_held}
+use Rattle.session.proofs.Listings.{listing_more, listing_skip}
 use Rattle.session.proofs.session.Session.collect_cut.Goals as goal
-use Rattle.session.proofs.session.Session.collect_cut.Goals.{then-is_inside, else-is_inside}
+use Rattle.session.proofs.session.Session.collect_cut.Goals.{then-holds, else-holds}
 
 pub loop-position-preserved : goal.loop-position-preserved
 loop-position-preserved g c =
+    let t = c.args.self.now.trace in
+    let bs = c.args.cut.now.bounds in
     let k = c.loop-position.position in
-    let cut = held (g.R.Reel.events c.args.self.now.reel) c.args.cut.now.bounds in
-    elim c.if-is_inside.branch [
-      | then-is_inside w ↦
-          let e = w.push.ensures in
-          rw w.out-is (
-            λ before list start.
-                listing_more cut before list _ _ _ k (sym w.if-is_inside.ensures)
-                (collecting_more before (c.loop-position.invariant.0 before list start) k _ _ _ e.count e.full e.entries),
-            e.lender ∙ c.loop-position.invariant.1,
-          )
-      | else-is_inside w ↦
-          rw w.out-is (
-            λ before list start. listing_skip cut before list _ _ _ k (sym w.if-is_inside.ensures) (c.loop-position.invariant.0 before list start),
-            c.loop-position.invariant.1,
-          )
+    let i = c.loop-position.invariant in
+    let seen = seen_first t bs k c.in-Some.event _ _ i.1 c.in-Some.ensures.steps c.holds.ensures in
+    let next = passes_some t k c.in-Some.event _ _ i.1 c.in-Some.ensures.steps in
+    let within = next.1 in
+    elim c.if-holds.branch [
+      | then-holds w ↦
+          rw w.out-is (listing_more (held t bs) k i.0 (seen_held t bs seen ∙ w.if-holds.true) w.push.ensures, next.2, omega arith)
+      | else-holds w ↦ rw w.out-is (listing_skip (held t bs) k i.0 (seen_held t bs seen ∙ w.if-holds.false), next.2, omega arith)
     ]
 
 pub returns : goal.returns
 returns g c =
-    let t = g.R.Reel.events c.args.self.now.reel in
-    record {
-      collects = λ before list start.
-          listing_all (held t c.args.cut.now.bounds) before list _ _ _ c.loop-position.position (length t) (omega arith) (c.loop-position.invariant.0 before list start);
-      lender = c.loop-position.invariant.1;
-    }
+    let t = c.args.self.now.trace in
+    let i = c.loop-position.invariant in
+    let past = passes_end t c.loop-position.position _ i.1 c.in-None.ensures.steps.0 in
+    let all : c.loop-position.position ≡ length t = let n = i.2 in omega arith in
+    rw all at i.0

@@ -1,13 +1,13 @@
--- The positions so far that the cut has are collected.
-use Rattle.std.proofs.Common.{◌≡◌, ℕ, List, ◌++◌}
+-- The positions so far that the cut has are added, and the pass stands at the next event.
+use Rattle.std.proofs.Common.{◌≡◌, ◌≤◌, length, drop}
 use Rattle.trace.specs.Cuts.{listed}
+use Rattle.reel.specs.Passing.{left_of}
 use Rattle.predict.specs.Held.{held}
-use Rattle.answer.specs.Buffers.{Collecting}
+use Rattle.answer.specs.Collectors.{Adds}
 use Rattle.session.proofs.session.Session.collect_cut.Given as goal
 
 abbrev pub invariant-loop-position : goal.invariant-loop-position
 invariant-loop-position g l =
-    ((before list : List ℕ) → Collecting before list l.initial.out.entries.now l.initial.out.count l.initial.out.full
-    → Collecting before (list ++ listed (held (g.R.Reel.events l.self.reel) l.cut.bounds) l.position) l.out.entries.now l.out.count
-    l.out.full)
-    × (l.out.entries.ghost_name ≡ l.initial.out.entries.ghost_name)
+    Adds (listed (held l.self.trace l.cut.bounds) l.position) l.initial.out l.out
+    × (left_of g.R.Reel.events l.event-iterator ≡ drop l.position l.self.trace)
+    × (l.position ≤ length l.self.trace)

@@ -1,24 +1,24 @@
-use Rattle.std.proofs.Common.{◌<◌, ◌∙◌, arith}
+use Rattle.std.proofs.Common.{◌∙◌}
 use Rattle.std.proofs.lemmas.Result.{err_from_is_err_and}
-use Rattle.session.specs.Entries.{record_count}
-use Rattle.session.proofs.Loads.{piece_is, loading_more, stopped}
+use Rattle.session.proofs.Loads.{next_piece, loading_more, loading_all, stopped}
 use Rattle.session.proofs.session.Session.enter_all.Goals as goal
-
-pub returns-in_err-offer : goal.returns-in_err-offer
-returns-in_err-offer g c =
-    let p = err_from_is_err_and c.from_residual.result c.from_residual.ensures.1 in
-    let inside : c.loop-index.index < record_count c.args.bytes.now = omega arith in
-    rw (p.1, p.2)
-    (record {
-      takes = λ s. let l = c.loop-index.invariant.1 s in
-          stopped _ _ _ l inside c.loop-index.invariant.0 (piece_is c.args.bytes.now c.loop-index.index _ c.min-end.ensures) _ (c.in_err-offer.ensures.takes l.stands);
-      room = c.offer.ensures.room ∙ c.loop-index.invariant.0;
-    })
 
 pub loop-index-preserved : goal.loop-index-preserved
 loop-index-preserved g c =
-    let inside : c.loop-index.index < record_count c.args.bytes.now = omega arith in (
-      c.offer.ensures.room ∙ c.loop-index.invariant.0,
-      λ s. let l = c.loop-index.invariant.1 s in
-          loading_more _ _ _ l inside c.loop-index.invariant.0 (piece_is c.args.bytes.now c.loop-index.index _ c.min-end.ensures) (c.in_ok-offer.ensures.takes l.stands),
-    )
+    let i = c.loop-index.invariant in
+    let s = c.in-Some.ensures.steps in
+    let p = next_piece _ _ _ _ _ _ i.1 i.2 s.0.1.0 s.0.1.1 s.0.1.2 in
+    rw s.2 (loading_more _ _ i.0 p.0 p.1 (rw s.1 at c.in_ok-offer.ensures), p.2, s.0.0 ∙ i.2)
+
+pub returns-in_err-offer : goal.returns-in_err-offer
+returns-in_err-offer g c =
+    let e = err_from_is_err_and c.from_residual.result c.from_residual.ensures.1 in
+    let i = c.loop-index.invariant in
+    let s = c.in-Some.ensures.steps in
+    let p = next_piece _ _ _ _ _ _ i.1 i.2 s.0.1.0 s.0.1.1 s.0.1.2 in
+    rw (e.1, e.2) (stopped _ _ i.0 p.0 p.1 _ (rw s.1 at c.in_err-offer.ensures))
+
+pub returns : goal.returns
+returns g c =
+    let i = c.loop-index.invariant in
+    loading_all _ _ _ _ i.0 i.1 c.in-None.ensures.steps.0.1.0 c.div_ceil.ensures

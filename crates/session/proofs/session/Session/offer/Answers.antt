@@ -1,7 +1,17 @@
-use Rattle.std.proofs.lemmas.Bool.{true≢false}
+use Rattle.std.proofs.Common.{◌≡◌, Ok, Err, Result, ap, refl, ◌∙◌, rules}
+use Rattle.std.proofs.lemmas.Result.{err_from_is_err_and}
+use Rattle.trace.specs.Faults.{told}
+use Rattle.answer.specs.declared.fault.EntryFault.{EntryFault}
+use Rattle.answer.specs.Faults.{at_index}
 use Rattle.session.proofs.session.Session.offer.Goals as goal
 
-pub returns-in-Ok : goal.returns-in-Ok
-returns-in-Ok g c =
-    let e = c.in-Ok.ensures in
-    record { takes = λ s. e.takes s c.args.index; room = e.room; same = λ q. absurd (true≢false q) }
+pub returns : goal.returns
+returns g c = rw (by c.take_record.result refl) (c.take_record.ensures c.args.index)
+  where
+    by : (r : Result (Unit {0}) EntryFault) → c.take_record.result ≡ r → c.map_err.result ≡ told (at_index c.args.index) c.take_record.result
+    by (Ok x) q = rw q (rw q at c.map_err.ensures.cases)
+    by (Err f) q =
+        let k = err_from_is_err_and c.map_err.result (rw q at c.map_err.ensures.cases) in
+        let h = k.2 in
+        let e : k.0 ≡ at_index c.args.index f = search rules in
+        rw q (k.1 ∙ ap Err e)

@@ -4,12 +4,13 @@ use Rattle.session.specs.Races.Partnered.{refused, written}
 use Rattle.session.proofs.session.Session.partners.Goals as goal
 
 pub returns-then-q-count : goal.returns-then-q-count
-returns-then-q-count g c = λ s. refused (omega arith)
+returns-then-q-count g c = refused (omega arith)
 
 pub returns-in_err-write_partners : goal.returns-in_err-write_partners
 returns-in_err-write_partners g c =
     let p = err_from_is_err_and c.from_residual.result c.from_residual.ensures.1 in
-    rw (p.1, p.2) (λ s. let h = c.in_err-write_partners.ensures s.admitted in written (omega arith) h.1 h.2)
+    let h = c.in_err-write_partners.ensures in
+    rw (p.1, p.2) (written (omega arith) h.1 h.2)
 
 pub returns : goal.returns
-returns g c = λ s. let h = c.in_ok-write_partners.ensures s.admitted in written (omega arith) h.1 h.2
+returns g c = let h = c.in_ok-write_partners.ensures in written (omega arith) h.1 h.2

@@ -1,14 +1,9 @@
 use Rattle.std.proofs.Common.{refl, arith}
 use Rattle.std.proofs.lemmas.List.{take_more_set}
 use Rattle.reel.specs.Boards.{kept}
-use Rattle.reel.proofs.Reels.{has_room, is_full}
+use Rattle.reel.proofs.Reels.{has_room}
 use Rattle.reel.proofs.Boards.{count_is}
 use Rattle.reel.proofs.board.methods.BoardReelReel.take.Goals as goal
-
-pub returns-then-self-ge1024 : goal.returns-then-self-ge1024
-returns-then-self-ge1024 c =
-    let n = count_is c.args.self.now in
-    record { taken = record { answer = is_full 1024 (kept c.args.self.now) (omega arith); events = refl }; same = refl }
 
 pub returns : goal.returns
 returns c =

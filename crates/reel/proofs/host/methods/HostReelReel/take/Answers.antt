@@ -1,13 +1,8 @@
 use Rattle.std.proofs.Common.{refl, ◌∙◌, arith}
 use Rattle.reel.specs.Hosts.{held}
-use Rattle.reel.proofs.Reels.{has_room, is_full}
+use Rattle.reel.proofs.Reels.{has_room}
 use Rattle.reel.proofs.Hosts.{grows}
 use Rattle.reel.proofs.host.methods.HostReelReel.take.Goals as goal
-
-pub returns-then-self-capacity : goal.returns-then-self-capacity
-returns-then-self-capacity c =
-    let n = c.args.self.now.counted in
-    record { taken = record { answer = is_full _ (held c.args.self.now) (omega arith); events = refl }; same = refl; bytes = refl; lender = refl }
 
 pub invariant_of-self : goal.invariant_of-self
 invariant_of-self c =

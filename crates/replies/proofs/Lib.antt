@@ -1,2 +1,0 @@
--- The lemmas.
-pub mod Joins

@@ -1,0 +1,54 @@
+//! Texts of sessions, and of the records of an input: the text of the session that takes them, or the line of the first that is refused.
+ghost use Rattle.std.specs.Prelude.{ℕ, List, [], IfOk, string_bytes};
+ghost use Rattle.trace.specs.declared.event.Event.{Event};
+ghost use Rattle.reel.specs.Stored.{room_in};
+ghost use Rattle.session.specs.Entries.{enter_all};
+ghost use Rattle.report.specs.Texts.{After};
+
+use crate::listing::refusal_line;
+use reel::Reel;
+use reel::host::HostReel;
+use session::session::Session;
+use std::alloc::{AllocError, Global};
+
+/// A text of a session.
+// Tried as a bound `FnOnce(&Session<R>)`: the check refuses it (unsupported-contract-type, it cannot state an item with such a type in a bound).
+pub(crate) trait SessionText {
+    ghost Says: { Self → List Event → List ℕ → Type 0 };
+
+    /// The text.
+    fn text<R: Reel>(&self, heap: Global, session: &Session<R>) -> Result<String, AllocError>
+        ensures { IfOk result (λ s. Says self.now session.now.trace (string_bytes s)) };
+}
+
+// heap, reel and input stay three parameters, as the public functions that call this have them
+
+/// The text of a session over the reel into which the records in `input` are entered, or the line of the first that is refused.
+pub(crate) fn text_over<R: Reel + Drop, T: SessionText>(
+    heap: Global,
+    reel: R,
+    input: &[u8],
+    text: &T,
+) -> Result<String, AllocError>
+    ensures { let o = enter_all (R.Reel.room reel) [] input.now in
+        IfOk result (λ s. After (T.SessionText.Says text.now) o.answer o.events (string_bytes s)) }
+{
+    let mut session = Session::open(reel);
+    match session.enter_all(input) {
+        Ok(_) => text.text(heap, &session),
+        Err(refused) => refusal_line(heap, &refused),
+    }
+}
+
+/// The same over a host reel in the bytes `storage`.
+pub(crate) fn text_in<T: SessionText>(
+    heap: Global,
+    storage: &mut [u8],
+    input: &[u8],
+    text: &T,
+) -> Result<String, AllocError>
+    ensures { let o = enter_all (room_in storage.old) [] input.now in
+        IfOk result (λ s. After (T.SessionText.Says text.now) o.answer o.events (string_bytes s)) }
+{
+    text_over(heap, HostReel::over(storage), input, text)
+}
