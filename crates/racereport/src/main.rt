@@ -1,16 +1,30 @@
 //! Prints the race report of a dump from standard input, or the first record that is refused.
 #![tactic(auto)]
 
-use program::print_text;
+ghost use Rattle.reel.specs.Stored.{room_in};
+ghost use Rattle.report.specs.Reports.{ReportOf};
+
+use program::{InputText, print_text};
 use report::races::race_report_of;
+use std::alloc::Global;
 use std::io;
 
+/// The race report.
+struct RaceReport {}
+
+impl InputText for RaceReport {
+    ghost Makes = { λ _ storage dump s. ReportOf (room_in storage) dump s };
+
+    fn text(&self, heap: Global, storage: &mut [u8], dump: &[u8]) -> anyhow::Result<String> {
+        Ok(race_report_of(heap, storage, dump)?)
+    }
+}
+
 fn main(rt: HostRuntime) -> anyhow::Result<()> {
-    let heap = rt.alloc();
     print_text(
-        heap,
+        rt.alloc(),
         &mut rt.stdin(),
         &mut io::writer(&rt),
-        |storage, dump| { Ok(race_report_of(heap, storage, dump)?) },
+        &RaceReport {},
     )
 }

@@ -1,23 +1,37 @@
 //! Performs the calls of a script from standard input on one session, and prints every reply.
 #![tactic(auto)]
 
-use program::print_text;
+ghost use Rattle.std.specs.Prelude.{List};
+ghost use Rattle.reel.specs.Stored.{room_in};
+ghost use Rattle.run.specs.declared.Request.{Request};
+ghost use Rattle.replies.specs.Replies.{Played};
+
+use program::{InputText, print_text};
 use replies::played_in;
 use script::requests;
+use std::alloc::Global;
 use std::io;
 
 mod script;
 
+/// The lines of the replies to the calls of a script.
+struct Replies {}
+
+impl InputText for Replies {
+    ghost Makes = { λ _ storage _ s. (calls : List Request) × Played (room_in storage) calls s };
+
+    fn text(&self, heap: Global, storage: &mut [u8], input: &[u8]) -> anyhow::Result<String> {
+        let script = io::read_to_string(heap, input)?;
+        let requests = requests(heap, script.as_str())?;
+        Ok(played_in(heap, storage, requests.as_slice())?)
+    }
+}
+
 fn main(rt: HostRuntime) -> anyhow::Result<()> {
-    let heap = rt.alloc();
     print_text(
-        heap,
+        rt.alloc(),
         &mut rt.stdin(),
         &mut io::writer(&rt),
-        |storage, input| {
-            let script = io::read_to_string(heap, input)?;
-            let requests = requests(heap, script.as_str())?;
-            Ok(played_in(heap, storage, requests.as_slice())?)
-        },
+        &Replies {},
     )
 }

@@ -1,16 +1,31 @@
 //! Prints a dump from standard input event by event, or the first record that is refused.
 #![tactic(auto)]
 
-use program::print_text;
+ghost use Rattle.std.specs.Prelude.{◌≡◌};
+ghost use Rattle.reel.specs.Stored.{room_in};
+ghost use Rattle.report.specs.Texts.{listing_of as listed};
+
+use program::{InputText, print_text};
 use report::listing::listing_of;
+use std::alloc::Global;
 use std::io;
 
+/// The listing.
+struct Listing {}
+
+impl InputText for Listing {
+    ghost Makes = { λ _ storage dump s. s ≡ listed (room_in storage) dump };
+
+    fn text(&self, heap: Global, storage: &mut [u8], dump: &[u8]) -> anyhow::Result<String> {
+        Ok(listing_of(heap, storage, dump)?)
+    }
+}
+
 fn main(rt: HostRuntime) -> anyhow::Result<()> {
-    let heap = rt.alloc();
     print_text(
-        heap,
+        rt.alloc(),
         &mut rt.stdin(),
         &mut io::writer(&rt),
-        |storage, dump| { Ok(listing_of(heap, storage, dump)?) },
+        &Listing {},
     )
 }
