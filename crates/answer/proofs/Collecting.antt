@@ -92,7 +92,7 @@ module _ {A : Type 0} (before : List A) where
         too_long h =
             let entries_are : entries ≡ take (length before) list =
             c.entries_are ∙ rw (drop_all (length list) before (omega arith)) (append-nil (take (length before) list)) in
-            rw (c.written_is, fitted_short (length list) (length before) h, entries_are) (short h)
+            rw (c.written_is, fitted_short (length list) (length before) h, entries_are) (short refl h)
 
         fits : length list ≤ length before → Filled list before written entries
         fits h = rw (c.written_is, fitted_whole (length list) (length before) h, c.entries_are, take_all (length before) list h) (whole h)

@@ -14,10 +14,10 @@ abbrev pub buffer_layer : BufferFault → Layer
 buffer_layer f = Buffer
 
 -- a list is written into a buffer: it stands at its start, the entries behind it stay, and the answer is its length; or it is longer than the
--- buffer, which then is full of its first entries
+-- buffer, which then is full of its first entries, and refused with 12
 pub data Filled {A : Type 0} (list before : List A) : Result ℕ BufferFault → List A → Type 0 where
   whole : length list ≤ length before → Filled list before (Ok (length list)) (list ++ drop (length list) before)
-  short : length before < length list → Filled list before (Err Full) (take (length before) list)
+  short : {f : BufferFault} → buffer_number f ≡ 12 → length before < length list → Filled list before (Err f) (take (length before) list)
 
 -- of so many entries a buffer with so much room takes all, or there is the refusal
 abbrev pub fitted : ℕ → ℕ → Result ℕ BufferFault

@@ -1,5 +1,5 @@
 -- What is answered about two positions, by closures that compute.
-use Rattle.std.proofs.Common.{◌≡◌, ℕ, ◌<◌, Bool, true, false, not, ◌↔◌, List, [], ◌∷◌, length, Some, None, Err, sym, refl, ◌∙◌}
+use Rattle.std.proofs.Common.{◌≡◌, ℕ, ◌<◌, Bool, true, false, not, ◌↔◌, List, [], ◌∷◌, length, Some, None, sym, refl, ◌∙◌}
 use Rattle.std.proofs.lemmas.Bool.{false≢true, both_ways}
 use Rattle.trace.specs.declared.event.Event.{Event}
 use Rattle.trace.specs.Traces.{Admits}
@@ -15,13 +15,12 @@ use Rattle.answer.specs.declared.verdict.WitnessFault.TheVariants.{NoRace as Not
 use Rattle.session.specs.Questions.{pair_refusal, Outside}
 use Rattle.session.specs.Questions.Answers.{answered}
 use Rattle.answer.specs.Buffers.Filled.{whole}
-use Rattle.session.specs.Races.{Races, Witness, Witnessed}
+use Rattle.session.specs.Races.{Races, Witness}
 use Rattle.session.specs.Races.Judged.{race, no_race}
 use Rattle.session.specs.Races.Witnessed.{no_race as no_witness, written}
 use Rattle.session.proofs.Asked.{asked, scheduled_by}
 use Rattle.session.proofs.Racing.{races_by}
-use Rattle.cases.specs.Cases.{Judges, FindsUnordered, FindsSchedulable}
-use Rattle.cases.specs.WholeAnswers.{Writes, WitnessRefuses}
+use Rattle.cases.specs.Cases.{Judges, FindsUnordered, FindsSchedulable, Writes, WitnessRefuses, RacesBy}
 use Rattle.predict.proofs.RuleTests.{Test, some_in, either, read_test, lock_test, before_acquire, unlocks, sync_decided, happens_before_decided, schedulable_decided}
 use Rattle.cases.proofs.Closing.{with_earlier, closes, closure_by}
 
@@ -63,17 +62,17 @@ module _ (t : List Event) (p q : ℕ) (admitted : Admits t) (none : pair_refusal
     pub judges_none : with_earlier t ws p ≡ true → Judges t p q NoRace
     judges_none i = no_race none (races_not i)
 
-    pub witness_refused : with_earlier t ws p ≡ true → (buffer : List ℕ) → Witnessed t p q (Witness t p q) buffer (Err NothingShown) buffer
-    witness_refused i buffer = no_witness none (races_not i)
-
     pub witness_is : Witness t p q (listed (with_earlier t ws) (length t))
     witness_is = (with_earlier t ws, sync_closure, refl)
 
     pub refuses_witness : with_earlier t ws p ≡ true → WitnessRefuses t p q 11
-    refuses_witness i = (NothingShown, λ buffer. no_witness none (races_not i), refl)
+    refuses_witness i = (NothingShown, λ buffer. no_witness refl none (races_not i), refl)
 
     pub writes : with_earlier t ws p ≡ false → Writes t p q (listed (with_earlier t ws) (length t))
     writes out buffer enough = written none (races out) (with_earlier t ws, sync_closure, refl) (whole enough)
+
+    pub races_as : with_earlier t ws p ≡ false → RacesBy t p q (listed (with_earlier t ws) (length t))
+    races_as out = (judges_race out, witness_is, writes out)
 
     -- the witness leaves the two enabled
     pub witness_leaves : with_earlier t ws p ≡ false → Leaves t (p ∷ q ∷ []) (listed (with_earlier t ws) (length t))

@@ -1,10 +1,15 @@
 -- The answers on the six traces.
-use Rattle.std.proofs.Common.{true, false, [], ◌∷◌, ◌++◌, refl}
+use Rattle.std.proofs.Common.{◌≡◌, ℕ, ◌<◌, true, false, [], ◌∷◌, ◌++◌, refl}
+use Rattle.std.proofs.lemmas.Bool.{lt-ltb}
 use Rattle.trace.specs.declared.kind.Kind.TheVariants.{Release}
+use Rattle.trace.specs.Records.{record_of}
 use Rattle.trace.specs.Traces.{Admits}
+use Rattle.trace.proofs.Records.{record_means}
+use Rattle.session.specs.Entries.{enter}
 use Rattle.cases.specs.Examples.{event, sections_between, writes_locked, read_between, through_section, one_locked}
-use Rattle.cases.specs.Cases.{SectionsRace, SectionsOrdered, LockedNoRace, ReadNoRace, ReadRaces, ChainNoRace, OneLockedRaces}
-use Rattle.cases.proofs.Asking.{judges_race, judges_none, witness_is, witness_refused, unordered_or_not, schedulable_or_not}
+use Rattle.cases.specs.Cases.{taken, AllAdmitted, SectionsRace, SectionsOrdered, LockedNoRace, ReadNoRace, ReadRaces, ChainNoRace, OneLockedRaces}
+use Rattle.cases.proofs.Asking.{judges_none, refuses_witness, unordered_or_not, schedulable_or_not, races_as}
+use Rattle.cases.proofs.Sweeping.{three_admitted}
 
 -- the trace check admits these traces
 pub sections_admitted : Admits sections_between
@@ -20,8 +25,7 @@ pub chain_admitted : Admits through_section
 chain_admitted = (refl, (refl, (refl, (refl, (refl, (refl, (refl, (refl, (refl, tt)))))))))
 
 pub sections_race : SectionsRace
-sections_race =
-    (judges_race sections_between 0 5 sections_admitted refl (4 ∷ []) refl refl, witness_is sections_between 0 5 sections_admitted refl (4 ∷ []) refl)
+sections_race = races_as sections_between 0 5 sections_admitted refl (4 ∷ []) refl refl
 
 pub sections_ordered : SectionsOrdered
 sections_ordered = (
@@ -32,8 +36,7 @@ sections_ordered = (
 pub locked_no_race : LockedNoRace
 locked_no_race = (
   judges_none writes_locked 1 4 locked_admitted refl (2 ∷ 3 ∷ 0 ∷ []) refl refl,
-  witness_refused writes_locked 1 4 locked_admitted refl (2 ∷ 3 ∷ 0 ∷ []) refl refl,
-  refl,
+  refuses_witness writes_locked 1 4 locked_admitted refl (2 ∷ 3 ∷ 0 ∷ []) refl refl,
 )
 
 pub read_no_race : ReadNoRace
@@ -44,7 +47,7 @@ read_no_race = (
 )
 
 pub read_races : ReadRaces
-read_races = (judges_race read_between 1 2 read_admitted refl (0 ∷ []) refl refl, witness_is read_between 1 2 read_admitted refl (0 ∷ []) refl)
+read_races = races_as read_between 1 2 read_admitted refl (0 ∷ []) refl refl
 
 pub chain_no_race : ChainNoRace
 chain_no_race = (
@@ -55,10 +58,18 @@ chain_no_race = (
 pub open_admitted : Admits one_locked
 open_admitted = (refl, (refl, (refl, tt)))
 
+pub all_admitted : AllAdmitted
+all_admitted = (sections_admitted, locked_admitted, read_admitted, chain_admitted, three_admitted, open_admitted)
+
+-- the release of the lock that is held
+release_entered : (room : ℕ) → 3 < room → enter room one_locked (record_of (event Release 0 0 tt tt)) ≡ taken one_locked (event Release 0 0 tt tt)
+release_entered room enough = let h = lt-ltb 3 room enough in rw (record_means (event Release 0 0 tt tt), h) refl
+
 pub one_locked_races : OneLockedRaces
 one_locked_races =
     let longer = one_locked ++ (event Release 0 0 tt tt ∷ []) in
     let longer_admitted : Admits longer = (refl, (refl, (refl, (refl, tt)))) in (
-      (judges_race one_locked 1 2 open_admitted refl (0 ∷ []) refl refl, witness_is one_locked 1 2 open_admitted refl (0 ∷ []) refl),
-      (judges_race longer 1 2 longer_admitted refl (0 ∷ []) refl refl, witness_is longer 1 2 longer_admitted refl (0 ∷ []) refl),
+      races_as one_locked 1 2 open_admitted refl (0 ∷ []) refl refl,
+      release_entered,
+      races_as longer 1 2 longer_admitted refl (0 ∷ []) refl refl,
     )

@@ -2,7 +2,6 @@
 pub mod Entering
 pub mod Closing
 pub mod Asking
+pub mod Sweeping
 pub mod Judging
 pub mod Vetting
-pub mod Sweeping
-pub mod WholeAnswers

@@ -8,7 +8,7 @@ use Rattle.trace.proofs.Events.{at_inside}
 use Rattle.answer.specs.declared.verdict.RacePair.{RacePair}
 use Rattle.answer.specs.declared.collector.BufferFault.TheVariants.{Full}
 use Rattle.answer.specs.Buffers.{Filled}
-use Rattle.answer.specs.Buffers.Filled.{short}
+use Rattle.answer.specs.Buffers.Filled.{whole, short}
 use Rattle.session.specs.Races.{pair, StandsBefore, RacingPair, SweepOf}
 use Rattle.session.proofs.Asked.{asked}
 use Rattle.cases.specs.Examples.{three_accesses}
@@ -39,7 +39,7 @@ pub three_admitted : Admits three_accesses
 three_admitted = (refl, (refl, (refl, tt)))
 
 -- the three pairs are the sweep
-pub sweep : SweepOf three_accesses three_pairs
+sweep : SweepOf three_accesses three_pairs
 sweep = record {
   in_order = (
     each (StandsBefore (pair 0 1)) (pair 0 2 ∷ pair 1 2 ∷ []) (inl (lit< tt), (inl (lit< tt), tt)),
@@ -55,8 +55,12 @@ sweep = record {
 }
 
 -- a buffer of two has the first two when it is full
-pub two_filled : (buffer : List RacePair) → length buffer ≡ 2 → Filled three_pairs buffer (Err Full) (pair 0 1 ∷ pair 0 2 ∷ [])
-two_filled buffer two = subst (λ (n : ℕ). Filled three_pairs buffer (Err Full) (take n three_pairs)) two (short (rw two (lit< tt)))
+two_filled : (buffer : List RacePair) → length buffer ≡ 2 → Filled three_pairs buffer (Err Full) (pair 0 1 ∷ pair 0 2 ∷ [])
+two_filled buffer two = subst (λ (n : ℕ). Filled three_pairs buffer (Err Full) (take n three_pairs)) two (short refl (rw two (lit< tt)))
 
 pub three_swept : ThreeSwept
-three_swept = (sweep, two_filled, refl)
+three_swept = (
+  sweep,
+  λ buffer enough. record { pairs = three_pairs; all = sweep; written = whole enough },
+  (Full, λ buffer two. record { pairs = three_pairs; all = sweep; written = two_filled buffer two }, refl),
+)

@@ -1,22 +1,26 @@
--- What a session answers on small traces and at its limits, each by the definitions that the contracts of its calls cite.
-use Rattle.std.specs.Prelude.{◌≡◌, ℕ, ◌/◌, ◌%◌, ◌<◌, Bool, true, false, List, [], ◌∷◌, ◌++◌, length, Some, Ok, Err}
+-- What a session answers on small traces and at its limits, each by the definitions that the contracts of its calls cite. Where a call fills a
+-- buffer, also what the whole buffer then holds.
+use Rattle.std.specs.Prelude.{◌≡◌, ℕ, ◌/◌, ◌%◌, ◌<◌, ◌≤◌, Bool, true, false, List, [], ◌∷◌, ◌++◌, length, drop, Ok, Err}
 use Rattle.trace.specs.declared.event.Event.{Event}
 use Rattle.trace.specs.declared.kind.Kind.{Kind}
 use Rattle.trace.specs.declared.kind.Kind.TheVariants.{Read, Write, Acquire, Release}
 use Rattle.trace.specs.Records.{number, record_of}
-use Rattle.trace.specs.Traces.{Allowed, holders_after}
+use Rattle.trace.specs.Traces.{Admits, Allowed, holders_after}
+use Rattle.reel.specs.Boards.{board_room}
 use Rattle.answer.specs.declared.fault.Layer.{Layer}
 use Rattle.answer.specs.declared.fault.Layer.TheVariants.{Record, Trace, Reel}
-use Rattle.session.specs.Entries.{Outcome, enter, load}
+use Rattle.answer.specs.declared.fault.PairFault.{PairFault}
 use Rattle.answer.specs.declared.verdict.Verdict.{Verdict}
 use Rattle.answer.specs.declared.verdict.Verdict.TheVariants.{Race, NoRace}
 use Rattle.answer.specs.declared.verdict.RacePair.{RacePair}
-use Rattle.answer.specs.declared.verdict.WitnessFault.TheVariants.{NoRace as NothingShown}
-use Rattle.answer.specs.declared.collector.BufferFault.TheVariants.{Full}
-use Rattle.session.specs.Questions.{pair_refusal, Answers, Unordered, Schedulable, Vetted}
-use Rattle.answer.specs.Buffers.{buffer_number, Filled}
-use Rattle.session.specs.Races.{Races, Judged, Witness, Witnessed, pair, SweepOf}
+use Rattle.answer.specs.declared.verdict.WitnessFault.{WitnessFault}
+use Rattle.answer.specs.declared.collector.BufferFault.{BufferFault}
+use Rattle.answer.specs.Faults.{pair_number}
+use Rattle.answer.specs.Buffers.{buffer_number}
 use Rattle.answer.specs.Verdicts.{witness_number}
+use Rattle.session.specs.Entries.{Outcome, enter, load}
+use Rattle.session.specs.Questions.{Answers, Unordered, Schedulable, Vetted}
+use Rattle.session.specs.Races.{Races, Judged, Witness, Witnessed, pair, SweepOf, Swept}
 use Rattle.cases.specs.Examples.{event, sections_between, writes_locked, read_between, through_section, three_accesses, one_locked}
 
 -- Judge answers with a verdict
@@ -35,55 +39,23 @@ FindsSchedulable t p q b = Answers t p q (Schedulable t p q) (Ok b)
 abbrev pub Vets : List Event → ℕ → ℕ → List ℕ → Bool → Type 0
 Vets t p q list b = Answers t p q (Vetted t p q list) (Ok b)
 
--- the sections between the two writes do not keep them from racing, and the witness is the section of the second thread
-abbrev pub SectionsRace : Type 0
-SectionsRace = Judges sections_between 0 5 Race × Witness sections_between 0 5 (3 ∷ 4 ∷ [])
+-- Judge refuses with a number
+abbrev pub JudgeRefuses : List Event → ℕ → ℕ → ℕ → Type 0
+JudgeRefuses t p q n = (f : PairFault) × Judged t p q (Races t p q) (Err f) × (pair_number f ≡ n)
 
--- though the first write comes before the second in happens-before and in schedulable happens-before
-abbrev pub SectionsOrdered : Type 0
-SectionsOrdered = FindsUnordered sections_between 0 5 false × FindsSchedulable sections_between 0 5 false
+-- Witness writes a list of positions to the start of every buffer that has places for it, and answers its length
+abbrev pub Writes : List Event → ℕ → ℕ → List ℕ → Type 0
+Writes t p q ws =
+    (buffer : List ℕ) → length ws ≤ length buffer → Witnessed t p q (Witness t p q) buffer (Ok (length ws)) (ws ++ drop (length ws) buffer)
 
--- two writes under one lock do not race, so a witness is refused with 11, and the buffer stays
-abbrev pub LockedNoRace : Type 0
-LockedNoRace =
-    Judges writes_locked 1 4 NoRace × ((buffer : List ℕ) → Witnessed writes_locked 1 4 (Witness writes_locked 1 4) buffer (Err NothingShown) buffer) × (witness_number NothingShown ≡ 11)
+-- Witness refuses with a number, and every buffer stays
+abbrev pub WitnessRefuses : List Event → ℕ → ℕ → ℕ → Type 0
+WitnessRefuses t p q n =
+    (f : WitnessFault) × ((buffer : List ℕ) → Witnessed t p q (Witness t p q) buffer (Err f) buffer) × (witness_number f ≡ n)
 
--- the read keeps the writes around it from racing; happens-before does not see that, and schedulable happens-before does
-abbrev pub ReadNoRace : Type 0
-ReadNoRace = Judges read_between 0 3 NoRace × FindsUnordered read_between 0 3 true × FindsSchedulable read_between 0 3 false
-
--- the write and the read themselves race
-abbrev pub ReadRaces : Type 0
-ReadRaces = Judges read_between 1 2 Race × Witness read_between 1 2 (0 ∷ [])
-
--- reads and a lock together keep the first and the last write from racing, which happens-before does not see
-abbrev pub ChainNoRace : Type 0
-ChainNoRace = Judges through_section 0 8 NoRace × FindsUnordered through_section 0 8 true
-
--- the racing pairs of the three accesses
-abbrev pub three_pairs : List RacePair
-three_pairs = pair 0 1 ∷ pair 0 2 ∷ pair 1 2 ∷ []
-
--- the sweep has all three, and a buffer of two refuses it with 12 and holds the first two
-abbrev pub ThreeSwept : Type 0
-ThreeSwept =
-    SweepOf three_accesses three_pairs
-    × ((buffer : List RacePair) → length buffer ≡ 2 → Filled three_pairs buffer (Err Full) (pair 0 1 ∷ pair 0 2 ∷ []))
-    × (buffer_number Full ≡ 12)
-
--- the write at 1 races with that at 2, and the witness is the acquire before it
-abbrev pub OpenRaces : List Event → Type 0
-OpenRaces t = Judges t 1 2 Race × Witness t 1 2 (0 ∷ [])
-
--- a write under a lock races with one without, whether or not the lock is released later
-abbrev pub OneLockedRaces : Type 0
-OneLockedRaces = OpenRaces one_locked × OpenRaces (one_locked ++ (event Release 0 0 tt tt ∷ []))
-
--- Vet says yes to the witness, and no to its events in the other order and to less than all of it
-abbrev pub WitnessVetted : Type 0
-WitnessVetted =
-    Vets sections_between 0 5 (3 ∷ 4 ∷ []) true × Vets sections_between 0 5 (4 ∷ 3 ∷ []) false
-    × Vets sections_between 0 5 (3 ∷ []) false × Vets sections_between 0 5 [] false
+-- Judge says race, and this is the witness, which Witness writes
+abbrev pub RacesBy : List Event → ℕ → ℕ → List ℕ → Type 0
+RacesBy t p q ws = Judges t p q Race × Witness t p q ws × Writes t p q ws
 
 -- a call takes no record: it is refused with a number by a layer at an index, and the events stay
 abbrev pub refused : {A : Type 0} → List Event → ℕ → Layer → ℕ → Outcome A
@@ -93,20 +65,81 @@ refused t n layer i = record { answer = Err (record { number = n; layer = layer;
 abbrev pub taken : List Event → Event → Outcome (Unit {0})
 taken t e = record { answer = Ok tt; events = t ++ (e ∷ []) }
 
+-- the trace check admits the six traces
+abbrev pub AllAdmitted : Type 0
+AllAdmitted =
+    Admits sections_between × Admits writes_locked × Admits read_between × Admits through_section × Admits three_accesses × Admits one_locked
+
+-- the sections between the two writes do not keep them from racing, and the witness is the section of the second thread
+abbrev pub SectionsRace : Type 0
+SectionsRace = RacesBy sections_between 0 5 (3 ∷ 4 ∷ [])
+
+-- though the first write comes before the second in happens-before and in schedulable happens-before
+abbrev pub SectionsOrdered : Type 0
+SectionsOrdered = FindsUnordered sections_between 0 5 false × FindsSchedulable sections_between 0 5 false
+
+-- two writes under one lock do not race, so a witness is refused with 11, and the buffer stays
+abbrev pub LockedNoRace : Type 0
+LockedNoRace = Judges writes_locked 1 4 NoRace × WitnessRefuses writes_locked 1 4 11
+
+-- the read keeps the writes around it from racing; happens-before does not see that, and schedulable happens-before does
+abbrev pub ReadNoRace : Type 0
+ReadNoRace = Judges read_between 0 3 NoRace × FindsUnordered read_between 0 3 true × FindsSchedulable read_between 0 3 false
+
+-- the write and the read themselves race
+abbrev pub ReadRaces : Type 0
+ReadRaces = RacesBy read_between 1 2 (0 ∷ [])
+
+-- reads and a lock together keep the first and the last write from racing, which happens-before does not see
+abbrev pub ChainNoRace : Type 0
+ChainNoRace = Judges through_section 0 8 NoRace × FindsUnordered through_section 0 8 true
+
+-- the racing pairs of the three accesses
+abbrev pub three_pairs : List RacePair
+three_pairs = pair 0 1 ∷ pair 0 2 ∷ pair 1 2 ∷ []
+
+-- the sweep has all three. Sweep writes them to the start of a buffer that has places for them; one of two places is refused with 12 and holds
+-- the first two
+abbrev pub ThreeSwept : Type 0
+ThreeSwept =
+    SweepOf three_accesses three_pairs
+    × ((buffer : List RacePair) → 3 ≤ length buffer → Swept three_accesses buffer (Ok 3) (three_pairs ++ drop 3 buffer))
+    × ((f : BufferFault)
+    × ((buffer : List RacePair) → length buffer ≡ 2 → Swept three_accesses buffer (Err f) (pair 0 1 ∷ pair 0 2 ∷ []))
+    × (buffer_number f ≡ 12))
+
+-- the write at 1 races with that at 2, and the witness is the acquire before it
+abbrev pub OpenRaces : List Event → Type 0
+OpenRaces t = RacesBy t 1 2 (0 ∷ [])
+
+-- a write under a lock races with one without, before and after the release of the lock is entered
+abbrev pub OneLockedRaces : Type 0
+OneLockedRaces =
+    let e = event Release 0 0 tt tt in
+    OpenRaces one_locked × ((room : ℕ) → 3 < room → enter room one_locked (record_of e) ≡ taken one_locked e) × OpenRaces (one_locked ++ (e ∷ []))
+
+-- Vet says yes to the witness, and no to its events in the other order and to less than all of it
+abbrev pub WitnessVetted : Type 0
+WitnessVetted =
+    Vets sections_between 0 5 (3 ∷ 4 ∷ []) true × Vets sections_between 0 5 (4 ∷ 3 ∷ []) false
+    × Vets sections_between 0 5 (3 ∷ []) false × Vets sections_between 0 5 [] false
+
 -- the bytes of a record of a kind, by thread 0, on a subject that may be past its limit
 abbrev pub bytes_of : Kind → ℕ → List ℕ
 bytes_of kind subject = number kind ∷ 0 ∷ (subject % 256) ∷ (subject / 256) ∷ 0 ∷ 0 ∷ 0 ∷ 0 ∷ []
 
--- after 0a0, the record of 1z0 is refused with 6, and that of 0a0 with 5
+-- 0a0 is entered; then the record of 1z0 is refused with 6, and that of 0a0 with 5
 abbrev pub LocksRefused : Type 0
 LocksRefused =
-    let t = event Acquire 0 0 tt tt ∷ [] in
+    let e = event Acquire 0 0 tt tt in
+    let t = e ∷ [] in
     (room : ℕ)
-    → (enter room t (record_of (event Release 1 0 tt tt)) ≡ refused t 6 Trace 0) × (enter room t (record_of (event Acquire 0 0 tt tt)) ≡ refused t 5 Trace 0)
+    → (0 < room → enter room [] (record_of e) ≡ taken [] e) × (enter room t (record_of (event Release 1 0 tt tt)) ≡ refused t 6 Trace 0)
+    × (enter room t (record_of e) ≡ refused t 5 Trace 0)
 
--- of three events, a pair with position 3 is refused with 8, and one of position 2 twice with 9
+-- of three events, Judge of a pair with position 3 is refused with 8, and one of position 2 twice with 9
 abbrev pub PairsRefused : Type 0
-PairsRefused = (pair_refusal three_accesses 0 3 ≡ Some 8) × (pair_refusal three_accesses 2 2 ≡ Some 9)
+PairsRefused = JudgeRefuses three_accesses 0 3 8 × JudgeRefuses three_accesses 2 2 9
 
 -- the records of variable 1,023 and lock 63 are taken
 abbrev pub LastSubjects : Type 0
@@ -128,8 +161,8 @@ DumpLengths =
     (room : ℕ) (t : List Event)
     → (load room t [] ≡ record { answer = Ok 0; events = t }) × ((dump : List ℕ) → length dump ≡ 17 → load room t dump ≡ refused t 1 Record 2)
 
--- with room for 1,024 events, an event that the trace check allows is taken as the last, and refused with 7 as one more
+-- over a board reel, an event that the trace check allows is taken as the 1,024th, and one that it allows then is refused with 7
 abbrev pub LastRoom : Type 0
 LastRoom =
-    (t : List Event) (e : Event) → Allowed (holders_after t) e
-    → (length t ≡ 1023 → enter 1024 t (record_of e) ≡ taken t e) × (length t ≡ 1024 → enter 1024 t (record_of e) ≡ refused t 7 Reel 0)
+    (t : List Event) (e f : Event) → length t ≡ 1023 → Allowed (holders_after t) e → let u = t ++ (e ∷ []) in Allowed (holders_after u) f
+    → (enter board_room t (record_of e) ≡ taken t e) × (enter board_room u (record_of f) ≡ refused u 7 Reel 0)

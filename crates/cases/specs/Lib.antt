@@ -1,4 +1,3 @@
 -- The traces of the worked examples, and what is said of them.
 pub mod Examples
 pub mod Cases
-pub mod WholeAnswers

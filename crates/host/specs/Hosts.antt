@@ -3,6 +3,7 @@ use Rattle.std.specs.Prelude.{◌≡◌, ℕ, ◌+◌, List, [], Ok, Err, Result
 use Rattle.trace.specs.Faults.{told}
 use Rattle.answer.specs.declared.fault.PairFault.{PairFault}
 use Rattle.answer.specs.declared.verdict.Verdict.{Verdict}
+use Rattle.reel.specs.Boards.{board_room}
 use Rattle.answer.specs.Faults.{Refusal, entry_number, pair_number}
 use Rattle.session.specs.Entries.{Outcome, load}
 use Rattle.answer.specs.Verdicts.{verdict_number}
@@ -20,9 +21,9 @@ abbrev pub answer_number : Result Verdict ℕ → ℕ
 answer_number (Ok v) = verdict_number v
 answer_number (Err n) = 100 + n
 
--- Load of a dump into an empty trace with room for 1,024 events
+-- Load of a dump into an empty trace with the room of a board reel
 abbrev pub loaded : List ℕ → Outcome ℕ
-loaded dump = load 1024 [] dump
+loaded dump = load board_room [] dump
 
 -- the number that a host is answered: where Load refuses the dump, that of its refusal; else that of what Judge answers about p and q on the
 -- trace that is loaded

@@ -33,12 +33,12 @@ module _ {t : List Event} {q : ℕ} where
   -- the first entries then are the partners, as many as the answer says
   pub gathered : {before after : List ℕ} {r : Result ℕ PartnersFault} → length t ≤ length before → Partnered t q before r after
       → (valueOrElse r 0 ≤ length after) × PartnersOf t q (take (valueOrElse r 0) after)
-  gathered room (refused past) = (omega arith, partners_beyond t q past)
+  gathered room (refused n past) = (omega arith, partners_beyond t q past)
   gathered {before} room (written {ps} inside partners (whole fits)) = (
     omega (arith, length-append ps (drop (length ps) before)),
     rw (take_at ps (drop (length ps) before) (length ps) refl) partners,
   )
-  gathered room (written inside partners (short long)) = absurd (let fits = partners_fit partners in omega arith)
+  gathered room (written inside partners (short full long)) = absurd (let fits = partners_fit partners in omega arith)
 
 -- a part from the start of a list
 pub front_part : (xs : List ℕ) (n : ℕ) (o : Option (Bor (List ℕ))) (d : Bor (List ℕ)) → IsGetRangeResult xs 0 n o → n ≤ length xs → (unwrap_or o d).now ≡ take n xs

@@ -1,5 +1,5 @@
 -- What replies say of a pair lasts.
-use Rattle.std.proofs.Common.{◌≡◌, ℕ, ◌<◌, List, ◌++◌, length, take, drop, None, Ok, Err, vec_items, Result, Vec, sym, refl, subst}
+use Rattle.std.proofs.Common.{◌≡◌, ℕ, ◌<◌, ◌≤◌, List, ◌++◌, length, take, drop, None, Ok, Err, vec_items, Result, Vec, sym, refl, subst, arith, lit≤}
 use mathlib.Core.List.{Memᴰ}
 use Rattle.std.specs.declared.alloc.Global.{Global}
 use Rattle.std.proofs.lemmas.List.{take_at}
@@ -8,15 +8,18 @@ use Rattle.trace.specs.Traces.{Admits}
 use Rattle.trace.proofs.Events.{at_inside}
 use Rattle.answer.specs.declared.verdict.Verdict.{Verdict}
 use Rattle.answer.specs.declared.verdict.Verdict.TheVariants.{Race, NoRace}
+use Rattle.answer.specs.declared.fault.PairFault.{PairFault}
+use Rattle.answer.specs.declared.fault.PairFault.TheVariants.{NoEvent, Order, NoConflict}
 use Rattle.answer.specs.declared.verdict.WitnessFault.{WitnessFault}
-use Rattle.answer.specs.declared.verdict.WitnessFault.TheVariants.{Pair, NoRace as NothingShown, Buffer}
 use Rattle.answer.specs.declared.verdict.PartnersFault.{PartnersFault}
 use Rattle.run.specs.declared.Request.{Request}
 use Rattle.run.specs.declared.Request.TheVariants.{Witness}
 use Rattle.run.specs.declared.Reply.{Reply}
 use Rattle.run.specs.declared.Reply.TheVariants.{Witness as Witnesses}
 use Rattle.answer.specs.Buffers.{Filled}
-use Rattle.answer.specs.Buffers.Filled.{whole}
+use Rattle.answer.specs.Buffers.Filled.{whole, short}
+use Rattle.answer.specs.Faults.{pair_number}
+use Rattle.answer.specs.Verdicts.{witness_number}
 use Rattle.session.specs.Questions.{pair_refusal}
 use Rattle.session.specs.Races.{Races, RacingPair, Shows, Witnessed, PartnersOf, Partnered, pair}
 use Rattle.session.specs.Races.Judged.{refused as judge_refused, race, no_race}
@@ -52,18 +55,23 @@ filled_front list before n after (whole h) = take_at list (drop (length list) be
 -- what Witness answered, by its answer
 WitnessMeans : List Event → ℕ → ℕ → List ℕ → Result ℕ WitnessFault → Type 0
 WitnessMeans t p q after (Ok n) = RacingPair t p q × Shows t p q (take n after)
-WitnessMeans t p q after (Err (Pair f)) = Unit {0}
-WitnessMeans t p q after (Err NothingShown) = (pair_refusal t p q ≡ None) × (Races t p q → ⊥)
-WitnessMeans t p q after (Err (Buffer f)) = RacingPair t p q
+WitnessMeans t p q after (Err f) =
+    (witness_number f ≡ 11 → (pair_refusal t p q ≡ None) × (Races t p q → ⊥)) × (witness_number f ≡ 12 → RacingPair t p q)
+
+-- no refusal of a pair is one of Witness alone
+of_pairs : (f : PairFault) → pair_number f ≤ 10
+of_pairs NoEvent = lit≤ tt
+of_pairs Order = lit≤ tt
+of_pairs NoConflict = lit≤ tt
 
 witness_means : (t : List Event) (p q : ℕ) (before : List ℕ) (r : Result ℕ WitnessFault) (after : List ℕ) → Witnessed t p q (Shows t p q) before r after
     → WitnessMeans t p q after r
 unfolding WitnessMeans
-witness_means t p q before r after (witness_refused h) = tt
-witness_means t p q before r after (no_witness none apart) = (none, apart)
+witness_means t p q before r after (witness_refused {f} h) = let few = of_pairs f in (λ is. absurd (omega arith), λ is. absurd (omega arith))
+witness_means t p q before r after (no_witness n none apart) = (λ _. (none, apart), λ is. absurd (omega arith))
 witness_means t p q before r after (written {ws} {r = Ok n} none races shows f) =
     ((none, races), subst (Shows t p q) (sym (filled_front ws before n after f)) shows)
-witness_means t p q before r after (written {r = Err f} none races shows g) = (none, races)
+witness_means t p q before r after (written none races shows (short n long)) = (λ is. absurd (omega arith), λ _. (none, races))
 
 -- what Partners answered
 PartnersMeans : List Event → ℕ → List ℕ → Result ℕ PartnersFault → Type 0
@@ -72,7 +80,7 @@ PartnersMeans t q after (Err f) = Unit {0}
 
 partners_means : (t : List Event) (q : ℕ) (before : List ℕ) (r : Result ℕ PartnersFault) (after : List ℕ) → Partnered t q before r after → PartnersMeans t q after r
 unfolding PartnersMeans
-partners_means t q before r after (partners_refused h) = tt
+partners_means t q before r after (partners_refused n h) = tt
 partners_means t q before r after (partners_written {ps} {r = Ok n} inside partners f) =
     (inside, subst (PartnersOf t q) (sym (filled_front ps before n after f)) partners)
 partners_means t q before r after (partners_written {r = Err f} inside partners g) = tt
@@ -87,10 +95,10 @@ says_right room t p q x y v (judged (race none h)) by_judge = decided t p q Race
 says_right room t p q x y v (judged (no_race none h)) by_judge = decided t p q NoRace none (λ r. h r.1)
 says_right room t p q x y v (witnessed {before = b} {after = a} w) (by_witness {n = n}) =
     let m = witness_means t p q (vec_items b) (Ok n) (vec_items a) w in decided t p q Race m.0.0 m.0
-says_right room t p q x y v (witnessed {before = b} {after = a} w) (by_long_witness {f = f}) =
-    let m = witness_means t p q (vec_items b) (Err (Buffer f)) (vec_items a) w in decided t p q Race m.0 m
-says_right room t p q x y v (witnessed {before = b} {after = a} w) by_no_witness =
-    let m = witness_means t p q (vec_items b) (Err NothingShown) (vec_items a) w in decided t p q NoRace m.0 (λ r. m.1 r.1)
+says_right room t p q x y v (witnessed {before = b} {after = a} w) (by_long_witness {f = f} n) =
+    let m = (witness_means t p q (vec_items b) (Err f) (vec_items a) w).1 n in decided t p q Race m.0 m
+says_right room t p q x y v (witnessed {before = b} {after = a} w) (by_no_witness {f = f} n) =
+    let m = (witness_means t p q (vec_items b) (Err f) (vec_items a) w).0 n in decided t p q NoRace m.0 (λ r. m.1 r.1)
 says_right room t p q x y v (partnered {before = b} {after = a} w) (by_partner {n = n} i) =
     let m = partners_means t q (vec_items b) (Ok n) (vec_items a) w in
     let r = (m.1.exact p).0 i in

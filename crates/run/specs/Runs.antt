@@ -12,17 +12,18 @@ use Rattle.answer.specs.declared.verdict.RacePair.{RacePair}
 use Rattle.answer.specs.declared.verdict.Verdict.{Verdict}
 use Rattle.answer.specs.declared.verdict.Verdict.TheVariants.{Race, NoRace}
 use Rattle.answer.specs.declared.verdict.WitnessFault.{WitnessFault}
-use Rattle.answer.specs.declared.verdict.WitnessFault.TheVariants.{NoRace as NothingShown, Buffer}
 use Rattle.answer.specs.declared.verdict.PartnersFault.{PartnersFault}
 use Rattle.run.specs.declared.Request.{Request}
 use Rattle.run.specs.declared.Request.TheVariants.{Enter, Load, Judge, Witness, Partners, Sweep}
 use Rattle.run.specs.declared.Reply.{Reply}
 use Rattle.run.specs.declared.Reply.TheVariants.{Enter as Entered, Load as Loaded, Judge as Judges, Witness as Witnesses, Partners as Lists, Sweep as Sweeps}
 use Rattle.answer.specs.Faults.{refusal}
+use Rattle.answer.specs.Verdicts.{witness_number}
 use Rattle.session.specs.Entries.{enter, load}
 use Rattle.session.specs.Races.{Races, Judged, Shows, Witnessed, Partnered, pair, Swept}
 
--- the trace after a request: Enter and Load add the events that no check turns away, and the others add none
+-- the trace after a request: Enter adds its event if no check turns it away, Load its events up to the first that one does, and none if its
+-- length is wrong; the others add none
 abbrev pub trace_after : ℕ → List Event → Request → List Event
 trace_after room t (Enter bytes) = (enter room t (vec_items bytes)).events
 trace_after room t (Load bytes) = (load room t (vec_items bytes)).events
@@ -54,8 +55,8 @@ pub data Replies (room : ℕ) (t : List Event) : Request → Reply → Type 0 wh
 pub data Says (t : List Event) (p q : ℕ) : Request → Reply → Verdict → Type 0 where
   by_judge : {v : Verdict} → Says t p q (Judge p q) (Judges (Ok v)) v
   by_witness : {before after : Vec ℕ Global} {n : ℕ} → Says t p q (Witness p q before) (Witnesses (Ok n) after) Race
-  by_long_witness : {before after : Vec ℕ Global} {f : BufferFault} → Says t p q (Witness p q before) (Witnesses (Err (Buffer f)) after) Race
-  by_no_witness : {before after : Vec ℕ Global} → Says t p q (Witness p q before) (Witnesses (Err NothingShown) after) NoRace
+  by_long_witness : {before after : Vec ℕ Global} {f : WitnessFault} → witness_number f ≡ 12 → Says t p q (Witness p q before) (Witnesses (Err f) after) Race
+  by_no_witness : {before after : Vec ℕ Global} {f : WitnessFault} → witness_number f ≡ 11 → Says t p q (Witness p q before) (Witnesses (Err f) after) NoRace
   by_partner : {before after : Vec ℕ Global} {n : ℕ} → Memᴰ p (take n (vec_items after)) → Says t p q (Partners q before) (Lists (Ok n) after) Race
   by_no_partner : {before after : Vec ℕ Global} {n : ℕ} → p < q → (Memᴰ p (take n (vec_items after)) → ⊥)
       → Says t p q (Partners q before) (Lists (Ok n) after) NoRace

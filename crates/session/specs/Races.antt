@@ -12,12 +12,13 @@ use Rattle.answer.specs.declared.verdict.RacePair.{RacePair}
 use Rattle.answer.specs.declared.verdict.Verdict.{Verdict}
 use Rattle.answer.specs.declared.verdict.Verdict.TheVariants.{Race, NoRace}
 use Rattle.answer.specs.declared.verdict.WitnessFault.{WitnessFault}
-use Rattle.answer.specs.declared.verdict.WitnessFault.TheVariants.{Pair, NoRace as NothingShown, Buffer}
+use Rattle.answer.specs.declared.verdict.WitnessFault.TheVariants.{Pair, Buffer}
 use Rattle.answer.specs.declared.verdict.PartnersFault.{PartnersFault}
-use Rattle.answer.specs.declared.verdict.PartnersFault.TheVariants.{NoEvent, Buffer as BufferOf}
+use Rattle.answer.specs.declared.verdict.PartnersFault.TheVariants.{Buffer as BufferOf}
 use Rattle.answer.specs.declared.collector.BufferFault.{BufferFault}
 use Rattle.answer.specs.Faults.{pair_number}
 use Rattle.answer.specs.Buffers.{Filled}
+use Rattle.answer.specs.Verdicts.{witness_number, partners_number}
 use Rattle.session.specs.Questions.{pair_refusal, Outside}
 
 -- p and q race: some sync-preserving correct reordering leaves both enabled
@@ -59,7 +60,7 @@ pub record Shows (t : List Event) (p q : ℕ) (ws : List ℕ) : Type 0 where
 -- witness, in one or the other words, is written into the buffer
 pub data Witnessed (t : List Event) (p q : ℕ) (shows : List ℕ → Type 0) (before : List ℕ) : Result ℕ WitnessFault → List ℕ → Type 0 where
   refused : {f : PairFault} → pair_refusal t p q ≡ Some (pair_number f) → Witnessed t p q shows before (Err (Pair f)) before
-  no_race : pair_refusal t p q ≡ None → (Races t p q → ⊥) → Witnessed t p q shows before (Err NothingShown) before
+  no_race : {f : WitnessFault} → witness_number f ≡ 11 → pair_refusal t p q ≡ None → (Races t p q → ⊥) → Witnessed t p q shows before (Err f) before
   written : {ws after : List ℕ} {r : Result ℕ BufferFault} → pair_refusal t p q ≡ None → Races t p q → shows ws → Filled ws before r after
       → Witnessed t p q shows before (as_witness r) after
 
@@ -77,9 +78,9 @@ abbrev pub as_partners : Result ℕ BufferFault → Result ℕ PartnersFault
 as_partners (Ok n) = Ok n
 as_partners (Err f) = Err (BufferOf f)
 
--- Partners: refused where q is not below the count, and the buffer stays; else the partners of q are written into the buffer
+-- Partners: refused with 8 where q is not below the count, and the buffer stays; else the partners of q are written into the buffer
 pub data Partnered (t : List Event) (q : ℕ) (before : List ℕ) : Result ℕ PartnersFault → List ℕ → Type 0 where
-  refused : length t ≤ q → Partnered t q before (Err NoEvent) before
+  refused : {f : PartnersFault} → partners_number f ≡ 8 → length t ≤ q → Partnered t q before (Err f) before
   written : {ps after : List ℕ} {r : Result ℕ BufferFault} → q < length t → PartnersOf t q ps → Filled ps before r after
       → Partnered t q before (as_partners r) after
 

@@ -76,9 +76,8 @@ impl<R: Reel> Session<R> {
         self.offer(0, record)
     }
 
-    /// Enters the records of some bytes one after another, up to the first that is refused, as the last is if it is cut short; answers how
-    /// many it took.
-    pub fn enter_all(&mut self, bytes: &[u8]) -> Result<usize, EntryRefusal>
+    /// Takes the records of some bytes one after another, up to the first that is refused; answers how many it took.
+    fn enter_all(&mut self, bytes: &[u8]) -> Result<usize, EntryRefusal>
         ensures { let t = self.old.trace in Takes (enter_all self.old.room t bytes.now) self.old bytes.now result self.new }
     {
         for (index, record) in bytes.chunks(RECORD).enumerate() {

@@ -75,10 +75,10 @@ fn loads<R: Reel + Drop>(rt: &impl Abort, reel: R) {
     assert_eq!(rt; session.count(), 2);
     assert_eq!(rt; session.load(&dump[0..16]).ok(), Some(2));
     assert_eq!(rt;
-        refused(session.enter_all(&dump[0..12])),
+        refused(session.load(&dump[0..12])),
         Some((1, Layer::Record, 1))
     );
-    assert_eq!(rt; session.count(), 5);
+    assert_eq!(rt; session.count(), 4);
 }
 
 #[test]

@@ -43,14 +43,10 @@ fn loads<R: Reel + Drop>(rt: &impl Abort, reel: R) {
     );
     assert_eq!(rt; session.count(), 1);
     assert_eq!(rt;
-        refused(session.enter_all(&dump)),
-        Some((6, Layer::Trace, 1))
-    );
-    assert_eq!(rt;
-        refused(session.enter_all(&dump[0..12])),
+        refused(session.load(&dump[0..12])),
         Some((1, Layer::Record, 1))
     );
-    assert_eq!(rt; session.count(), 3);
+    assert_eq!(rt; session.count(), 1);
 }
 
 #[test]

@@ -1,7 +1,7 @@
 //! What a reel in a table of its own does.
 ghost use Rattle.std.specs.Prelude.{◌≡◌, []};
 ghost use Rattle.std.proofs.Common.{lit≤};
-ghost use Rattle.reel.specs.Boards.{kept, kept_few};
+ghost use Rattle.reel.specs.Boards.{board_room, kept, kept_few};
 
 use crate::board::BoardReel;
 use crate::board::table::Table;
@@ -22,7 +22,7 @@ impl BoardReel {
 impl Reel for BoardReel {
     ghost events = { kept };
 
-    ghost room = { λ _. 1024 };
+    ghost room = { λ _. board_room };
 
     ghost few = { kept_few };
 

@@ -1,10 +1,10 @@
-use Rattle.std.proofs.Common.{arith}
+use Rattle.std.proofs.Common.{refl, arith}
 use Rattle.std.proofs.lemmas.Result.{err_from_is_err_and}
 use Rattle.session.specs.Races.Partnered.{refused, written}
 use Rattle.session.proofs.session.Session.partners.Goals as goal
 
 pub returns-then-q-count : goal.returns-then-q-count
-returns-then-q-count g c = refused (omega arith)
+returns-then-q-count g c = refused refl (omega arith)
 
 pub returns-in_err-write_partners : goal.returns-in_err-write_partners
 returns-in_err-write_partners g c =

@@ -18,7 +18,7 @@ returns-in_err-cut g c =
     let is : c.race.result ≡ None = search rules in
     let n = (found_none _ _ _ c.race.ensures.admitted none (rw is at (c.race.ensures.found none))).1 in
     let shown : c.in_err-cut.field-0.0 ≡ NothingShown = search rules in
-    rw (p.1, p.2, shown) (record { closure = no_race (sym none) n; shows = no_race (sym none) n })
+    rw (p.1, p.2, shown) (record { closure = no_race refl (sym none) n; shows = no_race refl (sym none) n })
 
 pub returns-in_err-write_cut : goal.returns-in_err-write_cut
 returns-in_err-write_cut g c =

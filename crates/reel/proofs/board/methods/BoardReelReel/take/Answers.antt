@@ -1,6 +1,6 @@
 use Rattle.std.proofs.Common.{refl, arith}
 use Rattle.std.proofs.lemmas.List.{take_more_set}
-use Rattle.reel.specs.Boards.{kept}
+use Rattle.reel.specs.Boards.{board_room, kept}
 use Rattle.reel.proofs.Reels.{has_room}
 use Rattle.reel.proofs.Boards.{count_is}
 use Rattle.reel.proofs.board.methods.BoardReelReel.take.Goals as goal
@@ -12,7 +12,7 @@ returns c =
     let w = x.whole in
     record {
       taken = record {
-        answer = has_room 1024 (kept x) (omega arith);
+        answer = has_room board_room (kept x) (omega arith);
         events = rw (c.put.ensures.count, c.put.ensures.entries) (take_more_set x.table.entries x.table.count c.args.e (omega arith));
       };
       same = refl;
