@@ -2,8 +2,7 @@
 //! list that Vet is asked about.
 #![tactic(auto)]
 
-ghost use Rattle.std.specs.Prelude.{ℕ};
-ghost use Rattle.reel.specs.Stored.{room_in};
+ghost use Rattle.reel.specs.Stored.{room_for};
 ghost use Rattle.report.specs.Answers.{AnsweredOf};
 
 use anyhow::Context;
@@ -15,21 +14,19 @@ use std::{env, io};
 /// How the program is called.
 const USAGE: &str = "usage: ask P Q [POSITION ..]";
 
-/// Two positions, as they are written, and a list.
+/// Two positions and a list.
 #[derive(Drop)]
 struct Question<'a> {
-    p: &'a str,
-    q: &'a str,
+    p: usize,
+    q: usize,
     list: &'a [u16],
 }
 
 impl InputText for Question<'_> {
-    ghost Makes = { λ it storage dump s. (p q : ℕ) × AnsweredOf (room_in storage) dump p q it.list.now s };
+    ghost Makes = { λ it size dump s. AnsweredOf (room_for size) dump it.p it.q it.list.now s };
 
-    fn text(&self, heap: Global, storage: &mut [u8], dump: &[u8]) -> anyhow::Result<String> {
-        let p = self.p.parse()?;
-        let q = self.q.parse()?;
-        Ok(answers_of(heap, storage, dump, p, q, self.list)?)
+    fn text(&self, heap: Global, size: usize, dump: &[u8]) -> anyhow::Result<String> {
+        Ok(answers_of(heap, size, dump, self.p, self.q, self.list)?)
     }
 }
 
@@ -42,8 +39,8 @@ fn main(rt: HostRuntime) -> anyhow::Result<()> {
         .map(|word| -> anyhow::Result<u16> { Ok(word.as_str().parse()?) })
         .try_collect(heap)?;
     let question = Question {
-        p: p.as_str(),
-        q: q.as_str(),
+        p: p.as_str().parse()?,
+        q: q.as_str().parse()?,
         list: list.as_slice(),
     };
     print_text(heap, &mut rt.stdin(), &mut io::writer(&rt), &question)

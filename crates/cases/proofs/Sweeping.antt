@@ -21,7 +21,7 @@ Each P [] = Unit {0}
 Each P (x ∷ xs) = P x × Each P xs
 
 -- and so of its members
-each : (P : RacePair → Type 0) (xs : List RacePair) → Each P xs → (y : RacePair) → Memᴰ y xs → P y
+pub each : (P : RacePair → Type 0) (xs : List RacePair) → Each P xs → (y : RacePair) → Memᴰ y xs → P y
 each P [] all y m = absurd (Memᴰ.not-nil m)
 each P (x ∷ xs) all y (Memᴰ.head e) = subst P (sym e) all.0
 each P (x ∷ xs) all y (Memᴰ.tail m) = each P xs all.1 y m

@@ -12,6 +12,8 @@ use reel::board::BoardReel;
 use session::session::Session;
 use trace::fault::Fault;
 
+pub mod examples;
+
 /// Why there is no verdict.
 #[derive(Clone, Copy)]
 enum HostFault {

@@ -12,3 +12,4 @@ pub mod RuleParts
 pub mod Tests
 pub mod RuleTests
 pub mod Existence
+pub mod RuleClosures

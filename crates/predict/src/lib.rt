@@ -8,3 +8,4 @@ pub mod lookup;
 mod reads;
 pub mod rule;
 pub mod rules;
+pub mod theorems;

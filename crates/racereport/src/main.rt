@@ -1,7 +1,7 @@
 //! Prints the race report of a dump from standard input, or the first record that is refused.
 #![tactic(auto)]
 
-ghost use Rattle.reel.specs.Stored.{room_in};
+ghost use Rattle.reel.specs.Stored.{room_for};
 ghost use Rattle.report.specs.Reports.{ReportOf};
 
 use program::{InputText, print_text};
@@ -13,10 +13,10 @@ use std::io;
 struct RaceReport {}
 
 impl InputText for RaceReport {
-    ghost Makes = { λ _ storage dump s. ReportOf (room_in storage) dump s };
+    ghost Makes = { λ _ size dump s. ReportOf (room_for size) dump s };
 
-    fn text(&self, heap: Global, storage: &mut [u8], dump: &[u8]) -> anyhow::Result<String> {
-        Ok(race_report_of(heap, storage, dump)?)
+    fn text(&self, heap: Global, size: usize, dump: &[u8]) -> anyhow::Result<String> {
+        Ok(race_report_of(heap, size, dump)?)
     }
 }
 

@@ -2,7 +2,7 @@
 #![tactic(auto)]
 
 ghost use Rattle.std.specs.Prelude.{List};
-ghost use Rattle.reel.specs.Stored.{room_in};
+ghost use Rattle.reel.specs.Stored.{room_for};
 ghost use Rattle.run.specs.declared.Request.{Request};
 ghost use Rattle.replies.specs.Replies.{Played};
 
@@ -18,12 +18,13 @@ mod script;
 struct Replies {}
 
 impl InputText for Replies {
-    ghost Makes = { λ _ storage _ s. (calls : List Request) × Played (room_in storage) calls s };
+    // the calls are some list: that it is the list of the script in the input is tested only, by the stored output
+    ghost Makes = { λ _ size _ s. (calls : List Request) × Played (room_for size) calls s };
 
-    fn text(&self, heap: Global, storage: &mut [u8], input: &[u8]) -> anyhow::Result<String> {
+    fn text(&self, heap: Global, size: usize, input: &[u8]) -> anyhow::Result<String> {
         let script = io::read_to_string(heap, input)?;
         let requests = requests(heap, script.as_str())?;
-        Ok(played_in(heap, storage, requests.as_slice())?)
+        Ok(played_in(heap, size, requests.as_slice())?)
     }
 }
 

@@ -84,3 +84,28 @@ pub(crate) fn requests(heap: Global, script: &str) -> anyhow::Result<Vec<Request
         })
         .try_collect(heap)
 }
+
+#[cfg(test)]
+mod tests {
+    use super::requests;
+    use std::test::Fail;
+
+    #[test]
+    fn names_the_line_that_is_no_call(rt: HostRuntime) -> Result<(), Fail> {
+        let heap = rt.alloc();
+        for (script, message) in [
+            (
+                "# a comment\n\njudge 0 1 2\n",
+                "line 3: there are too many words",
+            ),
+            ("sweep 1\njudge 0\n", "line 2: a number is missing"),
+            ("judges 0 1\n", "line 1: there is no such call"),
+        ] {
+            let Err(error) = requests(heap, script) else {
+                return Err(Fail::new("the script is taken"));
+            };
+            assert_eq!(rt; error.to_string(heap)?.as_str(), message);
+        }
+        Ok(())
+    }
+}

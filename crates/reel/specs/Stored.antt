@@ -9,7 +9,7 @@ abbrev with_event : Result Event ℕ → List Event → List Event
 with_event (Ok e) es = e ∷ es
 with_event (Err n) es = es
 
--- the events of the first n records
+-- the events of the first n records, in their order; a record that means none is passed over
 abbrev pub events_of : ℕ → List ℕ → List Event
 events_of zero bytes = []
 events_of (suc n) bytes = with_event (meaning (take 8 bytes)) (events_of n (drop 8 bytes))
@@ -18,9 +18,14 @@ events_of (suc n) bytes = with_event (meaning (take 8 bytes)) (events_of n (drop
 abbrev pub replaced : List ℕ → ℕ → List ℕ → List ℕ
 replaced bytes at new = take at bytes ++ new ++ drop (at + length new) bytes
 
--- how many records bytes have room for
-abbrev pub room_in : List ℕ → ℕ
-room_in bytes = min (length bytes / 8) 65535
+-- how many records so many bytes have room for
+abbrev pub room_for : ℕ → ℕ
+room_for size = min (size / 8) 65535
 
-pub room_small : (bytes : List ℕ) → room_in bytes ≤ 65535
-room_small bytes = min-le_right (length bytes / 8) 65535
+-- they are at most as many as a reel can have
+pub room_small : (size : ℕ) → room_for size ≤ 65535
+room_small size = min-le_right (size / 8) 65535
+
+-- how many records these bytes have room for
+abbrev pub room_in : List ℕ → ℕ
+room_in bytes = room_for (length bytes)

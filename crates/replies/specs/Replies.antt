@@ -33,17 +33,19 @@ abbrev pub verdict_name : Judgement → List ℕ
 verdict_name Race = codes "race"
 verdict_name NoRace = codes "no race"
 
--- an entry of a buffer, after a blank: a position, or the two of a pair
+-- a position, as an entry of a buffer after a blank
 abbrev pub position_entry : ℕ → List ℕ
 position_entry k = codes " " ++ decimal k
 
+-- a pair, likewise: its two positions
 abbrev pub pair_entry : RacePair → List ℕ
 pair_entry x = codes " " ++ (decimal x.first ++ (codes "-" ++ decimal x.second))
 
--- what a call says of a record that it refuses, and its line
+-- what a call says of a record that it refuses: the number of the refusal, its layer and the index of the record
 abbrev pub refused_entry : Refusal → List ℕ
 refused_entry r = codes "refused " ++ (decimal r.number ++ (codes " " ++ (layer_name r.layer ++ (codes " " ++ decimal r.index))))
 
+-- the line of a call that refuses a record, after the word of the call
 abbrev pub entry_refused_line : List ℕ → Refusal → List ℕ
 entry_refused_line call r = call ++ (codes " " ++ (refused_entry r ++ codes "\n"))
 
@@ -60,25 +62,30 @@ abbrev pub buffer_line : {F A : Type 0} → (F → ℕ) → (A → List ℕ) →
 buffer_line number entry call (Ok count) buffer = counted_line call count (flat_map entry buffer)
 buffer_line number entry call (Err f) buffer = refused_line call (number f) (flat_map entry buffer)
 
--- the lines of the six calls
+-- the line of Enter: that the record is taken, or what refuses it
 abbrev pub enter_line : Result (Unit {0}) EntryRefusal → List ℕ
 enter_line (Ok taken) = codes "enter taken\n"
 enter_line (Err r) = entry_refused_line (codes "enter") (refusal r)
 
+-- the line of Load: how many records it took, or what refuses one
 abbrev pub load_line : Result ℕ EntryRefusal → List ℕ
 load_line (Ok count) = codes "load " ++ (decimal count ++ codes "\n")
 load_line (Err r) = entry_refused_line (codes "load") (refusal r)
 
+-- the line of Judge: the verdict, or the number of the refusal
 abbrev pub judge_line : Result Judgement PairFault → List ℕ
 judge_line (Ok verdict) = codes "judge " ++ (verdict_name verdict ++ codes "\n")
 judge_line (Err f) = codes "judge refused " ++ (decimal (pair_number f) ++ codes "\n")
 
+-- the line of Witness, with the positions in its buffer
 abbrev pub witness_line : Result ℕ WitnessFault → List ℕ → List ℕ
 witness_line r buffer = buffer_line witness_number position_entry (codes "witness") r buffer
 
+-- the line of Partners, with the positions in its buffer
 abbrev pub partners_line : Result ℕ PartnersFault → List ℕ → List ℕ
 partners_line r buffer = buffer_line partners_number position_entry (codes "partners") r buffer
 
+-- the line of Sweep, with the pairs in its buffer
 abbrev pub sweep_line : Result ℕ BufferFault → List RacePair → List ℕ
 sweep_line r buffer = buffer_line buffer_number pair_entry (codes "sweep") r buffer
 

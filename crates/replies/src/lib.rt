@@ -4,7 +4,7 @@
 ghost use Rattle.std.specs.Prelude.{◌≡◌, ℕ, List, IfOk, Some, vec_items, string_bytes};
 ghost use Rattle.std.specs.Fmt.{DisplaysOnOk};
 ghost use Rattle.std.specs.List.{flat_map};
-ghost use Rattle.reel.specs.Stored.{room_in};
+ghost use Rattle.reel.specs.Stored.{room_for};
 ghost use Rattle.answer.specs.Faults.{refusal};
 ghost use Rattle.replies.specs.Replies.{layer_name, verdict_name, position_entry, pair_entry, refused_entry, buffer_line, reply_line, reply_lines, Played};
 
@@ -222,13 +222,10 @@ pub fn played<R: Reel + Drop>(
     reply_lines(heap, replies.as_slice())
 }
 
-/// The same over a host reel in the bytes `storage`.
-pub fn played_in(
-    heap: Global,
-    storage: &mut [u8],
-    requests: &[Request],
-) -> Result<String, AllocError>
-    ensures { IfOk result (λ s. Played (room_in storage.old) requests.now (string_bytes s)) }
+/// The same over a host reel in `size` bytes, which are made here.
+pub fn played_in(heap: Global, size: usize, requests: &[Request]) -> Result<String, AllocError>
+    ensures { IfOk result (λ s. Played (room_for size) requests.now (string_bytes s)) }
 {
-    played(heap, HostReel::over(storage), requests)
+    let mut storage = vec![in heap; 0u8; size]?;
+    played(heap, HostReel::over(storage.as_mut_slice()), requests)
 }

@@ -1,6 +1,6 @@
 //! The listing of a dump: a line for each event, then their number; or the line of the first refusal.
 ghost use Rattle.std.specs.Prelude.{◌≡◌, IfOk, Some, string_bytes};
-ghost use Rattle.reel.specs.Stored.{room_in};
+ghost use Rattle.reel.specs.Stored.{room_for};
 ghost use Rattle.answer.specs.Faults.{refusal};
 ghost use Rattle.report.specs.Texts.{deed, event_line, event_lines, events_line, listing, refusal_line, listing_of};
 
@@ -148,9 +148,9 @@ pub fn listing_over<R: Reel + Drop>(
     text_over(heap, reel, input, &ListingText)
 }
 
-/// The same over a host reel in the bytes `storage`.
-pub fn listing_of(heap: Global, storage: &mut [u8], input: &[u8]) -> Result<String, AllocError>
-    ensures { IfOk result (λ s. string_bytes s ≡ listing_of (room_in storage.old) input.now) }
+/// The same with `size` bytes to keep the events in.
+pub fn listing_of(heap: Global, size: usize, input: &[u8]) -> Result<String, AllocError>
+    ensures { IfOk result (λ s. string_bytes s ≡ listing_of (room_for size) input.now) }
 {
-    text_in(heap, storage, input, &ListingText)
+    text_in(heap, size, input, &ListingText)
 }

@@ -1,7 +1,7 @@
 //! The answers to the questions about two positions of a dump, a line each.
 ghost use Rattle.std.specs.Prelude.{IfOk, Some, string_bytes};
 ghost use Rattle.trace.specs.Faults.{told};
-ghost use Rattle.reel.specs.Stored.{room_in};
+ghost use Rattle.reel.specs.Stored.{room_for};
 ghost use Rattle.answer.specs.Faults.{pair_number};
 ghost use Rattle.report.specs.Answers.{answer_text, three_lines, Answered, AnsweredOf};
 
@@ -104,16 +104,16 @@ pub fn answers_over<R: Reel + Drop>(
     text_over(heap, reel, input, &AnswersText { p, q, list })
 }
 
-/// The same over a host reel in the bytes `storage`.
+/// The same with `size` bytes to keep the events in.
 pub fn answers_of(
     heap: Global,
-    storage: &mut [u8],
+    size: usize,
     input: &[u8],
     p: usize,
     q: usize,
     list: &[u16],
 ) -> Result<String, AllocError>
-    ensures { IfOk result (λ s. AnsweredOf (room_in storage.old) input.now p q list.now (string_bytes s)) }
+    ensures { IfOk result (λ s. AnsweredOf (room_for size) input.now p q list.now (string_bytes s)) }
 {
-    text_in(heap, storage, input, &AnswersText { p, q, list })
+    text_in(heap, size, input, &AnswersText { p, q, list })
 }

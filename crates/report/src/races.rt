@@ -1,6 +1,6 @@
 //! The race report of a dump: the number of its events and a line for each racing pair, or the line of the first refusal.
 ghost use Rattle.std.specs.Prelude.{◌≡◌, ◌≤◌, map, length, IfOk, Some, string_bytes};
-ghost use Rattle.reel.specs.Stored.{room_in};
+ghost use Rattle.reel.specs.Stored.{room_for};
 ghost use Rattle.session.specs.Races.{PartnersOf, pair};
 ghost use Rattle.report.specs.Reports.{race_line, RaceLines, PartnerLines, SweepLines, Reported, ReportOf};
 
@@ -143,9 +143,9 @@ pub fn race_report_over<R: Reel + Drop>(
     text_over(heap, reel, input, &RaceReportText)
 }
 
-/// The same over a host reel in the bytes `storage`.
-pub fn race_report_of(heap: Global, storage: &mut [u8], input: &[u8]) -> Result<String, AllocError>
-    ensures { IfOk result (λ s. ReportOf (room_in storage.old) input.now (string_bytes s)) }
+/// The same with `size` bytes to keep the events in.
+pub fn race_report_of(heap: Global, size: usize, input: &[u8]) -> Result<String, AllocError>
+    ensures { IfOk result (λ s. ReportOf (room_for size) input.now (string_bytes s)) }
 {
-    text_in(heap, storage, input, &RaceReportText)
+    text_in(heap, size, input, &RaceReportText)
 }

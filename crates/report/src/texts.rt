@@ -1,7 +1,7 @@
 //! Texts of sessions, and of the records of an input: the text of the session that takes them, or the line of the first that is refused.
 ghost use Rattle.std.specs.Prelude.{ℕ, List, [], IfOk, string_bytes};
 ghost use Rattle.trace.specs.declared.event.Event.{Event};
-ghost use Rattle.reel.specs.Stored.{room_in};
+ghost use Rattle.reel.specs.Stored.{room_for};
 ghost use Rattle.session.specs.Entries.{offer, enter_all, Takes};
 ghost use Rattle.report.specs.Texts.{After};
 
@@ -66,15 +66,16 @@ pub(crate) fn text_over<R: Reel + Drop, T: SessionText>(
     }
 }
 
-/// The same over a host reel in the bytes `storage`.
+/// The same over a host reel in `size` bytes, which are made here.
 pub(crate) fn text_in<T: SessionText>(
     heap: Global,
-    storage: &mut [u8],
+    size: usize,
     input: &[u8],
     text: &T,
 ) -> Result<String, AllocError>
-    ensures { let o = enter_all (room_in storage.old) [] input.now in
+    ensures { let o = enter_all (room_for size) [] input.now in
         IfOk result (λ s. After (T.SessionText.Says text.now) o.answer o.events (string_bytes s)) }
 {
-    text_over(heap, HostReel::over(storage), input, text)
+    let mut storage = vec![in heap; 0u8; size]?;
+    text_over(heap, HostReel::over(storage.as_mut_slice()), input, text)
 }

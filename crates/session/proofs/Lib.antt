@@ -1,6 +1,8 @@
 -- The lemmas, each file after those that it uses.
 pub mod Entries
 pub mod Loads
+pub mod Taking
+pub mod Loading
 pub mod Asked
 pub mod Racing
 pub mod Listings

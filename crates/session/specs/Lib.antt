@@ -3,3 +3,4 @@ pub mod States
 pub mod Entries
 pub mod Questions
 pub mod Races
+pub mod LoadTheorems

@@ -17,6 +17,7 @@ refusal_of p q None f = Some 8
 refusal_of p q (Some e) None = Some 8
 refusal_of p q (Some e) (Some f) = cond (nat_lt p q) (cond (conflict e f) None (Some 10)) (Some 9)
 
+-- why a question about the positions p and q of t is refused, by the events there; none where the two can be asked about
 abbrev pub pair_refusal : List Event → ℕ → ℕ → Option ℕ
 pair_refusal t p q = refusal_of p q (slice_get t p) (slice_get t q)
 

@@ -21,7 +21,7 @@ use Rattle.answer.specs.Buffers.{Filled}
 use Rattle.answer.specs.Verdicts.{witness_number, partners_number}
 use Rattle.session.specs.Questions.{pair_refusal, Outside}
 
--- p and q race: some sync-preserving correct reordering leaves both enabled
+-- p and q race, for positions that can be asked about: some sync-preserving correct reordering leaves both enabled
 abbrev pub Races : List Event → ℕ → ℕ → Type 0
 Races t p q = (σ : List ℕ) × Leaves t (p ∷ q ∷ []) σ
 

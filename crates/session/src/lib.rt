@@ -4,3 +4,4 @@
 pub mod session;
 #[cfg(test)]
 mod tests;
+pub mod theorems;

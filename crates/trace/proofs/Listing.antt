@@ -4,6 +4,7 @@ use mathlib.Core.List.Memᴰ
 use mathlib.Core.List.{Memᴰ}
 use Rattle.std.proofs.lemmas.Bool.{cases_Bool, cases_lt}
 use Rattle.trace.specs.Cuts.{Positions, In, listed}
+use Rattle.trace.specs.Lookups.{ListingRight}
 use Rattle.trace.proofs.Places.{Stands, is_member}
 use Rattle.trace.specs.Reorderings.{Ascending}
 use Rattle.trace.proofs.Ascending.{ascending_push, lesser}
@@ -46,6 +47,10 @@ listed_ascending c (suc n) =
     let a = listed_ascending c n in
     ⊎_elim (λ h. rw (listed_in c n h) (ascending_push (listed c n) n a (λ m i. (listed_within c n m i).1))) (λ e. rw (listed_out c n e) a)
     (cases_Bool (c n))
+
+-- so the listing is right
+pub listing_right : ListingRight
+listing_right c n = (listed_ascending c n, λ k. (listed_within c n k, λ h. listed_all c n k h.0 h.1))
 
 -- where k stands, the front has all of the earlier positions of the set
 pub listed_front : (c : Positions) (n : ℕ) {k : ℕ} (s : Stands k (listed c n)) (m : ℕ) → In m c → m < k → Memᴰ m s.front

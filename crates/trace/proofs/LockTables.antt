@@ -26,6 +26,8 @@ module _ (table : LockTable) (e : Event) where
       → Turned table e (Ok tt) next
   turned next lets step =
       record {
+        by_holders = sym lets;
+        holders_then = step;
         answer = λ t tells. sym (sym (same_refusal (holders table) (holders_after t) e tells) ∙ lets);
         tells = λ t tells l. step l ∙ same_turn e.kind e.thread e.subject (holders table) (holders_after t) tells l
             ∙ sym (ap (λ h. h l) (after_append all_free t (e ∷ [])));
@@ -36,6 +38,8 @@ module _ (table : LockTable) (e : Event) where
   pub refused : (f : TraceFault) → trace_refusal (holders table) e ≡ Some (trace_number f) → Turned table e (Err f) table
   refused f is =
       record {
+        by_holders = sym is;
+        holders_then = λ l. refl;
         answer = λ t tells. sym (sym (same_refusal (holders table) (holders_after t) e tells) ∙ is);
         tells = λ t tells. tells;
         same = λ q. refl;

@@ -26,7 +26,8 @@ pub record Cut (t : List Event) (c : Positions) : Type 0 where
 abbrev pub Wants : Type 1
 Wants = List Event → Positions → ℕ → Type 0
 
--- the laws of a rule: a wanted event stands before some event of the cut, a greater cut wants no less, and a cut wants the same in a longer trace
+-- the laws of a rule, in traces that the trace check admits: a wanted event stands before some event of the cut, a greater cut wants no less, and a
+-- cut wants the same in a longer trace that the trace check admits
 pub record Laws (wants : Wants) : Type 0 where
   pub earlier : (t : List Event) (c : Positions) (w : ℕ) → Admits t → Cut t c → wants t c w → (k : ℕ) × In k c × (w < k)
   pub more : (t : List Event) (c d : Positions) (w : ℕ) → Admits t → Cut t c → Cut t d → Inside c d → wants t c w → wants t d w
@@ -37,7 +38,8 @@ pub record Laws (wants : Wants) : Type 0 where
 abbrev pub Closed : Wants → List Event → Positions → Type 0
 Closed wants t c = (w : ℕ) → wants t c w → In w c
 
--- the closure of the seeds: the least closed cut that holds them
+-- the closure of the seeds: the least closed cut that holds them. A cut holds positions of the trace alone, so seeds have no closure if one of them
+-- is past the trace
 pub record Closure (wants : Wants) (t : List Event) (seeds : List ℕ) (c : Positions) : Type 0 where
   pub cut : Cut t c
   pub closed : Closed wants t c

@@ -4,10 +4,10 @@ pub mod Faults
 pub mod Records
 pub mod Traces
 pub mod Locks
-pub mod Lookups
 pub mod Conflicts
 pub mod Reorderings
 pub mod Cuts
+pub mod Lookups
 pub mod Orders
 pub mod SyncTheorems
 pub mod ClosureTheorems

@@ -4,7 +4,7 @@ use Rattle.trace.specs.declared.event.Event.{Event}
 use Rattle.trace.specs.declared.locks.TraceFault.{TraceFault}
 use Rattle.trace.specs.declared.locks.LockTable.{LockTable}
 use Rattle.trace.specs.Faults.{trace_number, refusal_in}
-use Rattle.trace.specs.Traces.{Holders, holders_after, trace_refusal}
+use Rattle.trace.specs.Traces.{Holders, after_event, holders_after, trace_refusal}
 
 -- the holders that the table has
 abbrev pub holders : LockTable → Holders
@@ -18,9 +18,12 @@ Tells table t = (l : ℕ) → holders table l ≡ holders_after t l
 abbrev pub with_taken : {A F : Type 0} → List Event → Event → Result A F → List Event
 with_taken t e r = cond (is_ok r) (t ++ (e ∷ [])) t
 
--- the trace check of the event e at the end of any trace that the table tells of: it refuses just where the definition does, and the table
--- then tells of the trace with the event; a refusal leaves the table as it was
+-- the trace check of the event e by a table: it refuses just where the definition does for the holders that the table has, and the table then
+-- has those after the event; a refusal leaves the table as it was. So of any trace that the table tells of, it refuses just where the trace check
+-- does, and the table then tells of the trace with the event
 pub record Turned (table : LockTable) (e : Event) (r : Result (Unit {0}) TraceFault) (next : LockTable) : Type 0 where
+  pub by_holders : refusal_in trace_number r ≡ trace_refusal (holders table) e
+  pub holders_then : (l : ℕ) → holders next l ≡ cond (is_ok r) (after_event (holders table) e l) (holders table l)
   pub answer : (t : List Event) → Tells table t → refusal_in trace_number r ≡ trace_refusal (holders_after t) e
   pub tells : (t : List Event) → Tells table t → Tells next (with_taken t e r)
   pub same : is_ok r ≡ false → next ≡ table

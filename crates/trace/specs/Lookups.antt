@@ -1,10 +1,14 @@
--- The previous event, the last write and the release of an acquire, as functions that compute, and what they should find.
-use Rattle.std.specs.Prelude.{◌≡◌, ℕ, zero, suc, Bool, true, false, cond, ◌&&◌, ◌↔◌, List, [], ◌∷◌, length, Some, None, Option, ◌==◌}
+-- The previous event, the last write and the release of an acquire, as functions that compute, and what they should find; and likewise the
+-- previous events of some events, and the listing of a set.
+use Rattle.std.specs.Prelude.{◌≡◌, ℕ, zero, suc, Bool, true, false, cond, ◌<◌, ◌&&◌, ◌↔◌, List, [], ◌∷◌, length, Some, None, Option, ◌==◌}
+use mathlib.Core.List.{Memᴰ}
 use Rattle.std.specs.List.{slice_get}
 use Rattle.trace.specs.declared.event.Event.{Event}
 use Rattle.trace.specs.declared.kind.Kind.{Kind}
 use Rattle.trace.specs.declared.kind.Kind.TheVariants.{Read, Write, Acquire, Release}
 use Rattle.trace.specs.Traces.{At, Previous, LastWrite, ReleaseOf}
+use Rattle.trace.specs.Reorderings.{Ascending}
+use Rattle.trace.specs.Cuts.{Positions, In, SeedsOf, listed}
 
 -- whether there is an event, and it fits
 abbrev pub fits_here : (Event → Bool) → Option Event → Bool
@@ -77,7 +81,7 @@ previous_events t (e ∷ es) = after_some (previous t e) (previous_events t es)
 abbrev pub last_write : List Event → ℕ → Option ℕ
 last_write t k = from_event (λ e. cond (reading e.kind) (latest (writes e.subject) t k) None) (slice_get t k)
 
--- the first later release of the lock of a by the thread of a
+-- the first later release of the lock of an acquire a by the thread of a; what is found for another event means nothing
 abbrev pub release_of : List Event → ℕ → Option ℕ
 release_of t a = from_event (λ e. earliest (releases e.subject e.thread) t (suc a) (length t)) (slice_get t a)
 
@@ -96,3 +100,11 @@ LastWriteFound = (t : List Event) (k : ℕ) → Finds (last_write t k) (LastWrit
 -- the lookup of releases is right at each acquire
 abbrev pub ReleaseFound : Type 0
 ReleaseFound = (t : List Event) (a : ℕ) (e : Event) → At t a e → e.kind ≡ Acquire → Finds (release_of t a) (ReleaseOf t a)
+
+-- the list that is computed of the previous events of some events has just these
+abbrev pub SeedsFound : Type 0
+SeedsFound = (t : List Event) (es : List ℕ) → SeedsOf t es (previous_events t es)
+
+-- the listing of a set below n is ascending, and has just the positions of the set that are below n
+abbrev pub ListingRight : Type 0
+ListingRight = (c : Positions) (n : ℕ) → Ascending (listed c n) × ((k : ℕ) → Memᴰ k (listed c n) ↔ (In k c × (k < n)))

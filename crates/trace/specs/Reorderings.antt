@@ -47,7 +47,8 @@ pub record SyncPreserving (t : List Event) (σ : List ℕ) : Type 0 where
   pub in_order : (xs ys : List ℕ) (a b : ℕ) (e f : Event) → σ ≡ xs ++ (b ∷ ys) → Memᴰ a xs → At t a e → At t b f → e.kind ≡ Acquire
       → f.kind ≡ Acquire → e.subject ≡ f.subject → a < b
 
--- k is enabled after σ: not in σ, with all earlier events of its thread in σ
+-- k is enabled after σ: not in σ, with all earlier events of its thread in σ. A position past the trace is enabled after every list of positions of
+-- the trace, so the calls of a session ask about positions of the trace alone
 pub record Enabled (t : List Event) (σ : List ℕ) (k : ℕ) : Type 0 where
   pub outside : Memᴰ k σ → ⊥
   pub ready : (d : ℕ) → EarlierInThread t d k → Memᴰ d σ

@@ -2,7 +2,7 @@
 #![tactic(auto)]
 
 ghost use Rattle.std.specs.Prelude.{◌≡◌};
-ghost use Rattle.reel.specs.Stored.{room_in};
+ghost use Rattle.reel.specs.Stored.{room_for};
 ghost use Rattle.report.specs.Texts.{listing_of as listed};
 
 use program::{InputText, print_text};
@@ -14,10 +14,10 @@ use std::io;
 struct Listing {}
 
 impl InputText for Listing {
-    ghost Makes = { λ _ storage dump s. s ≡ listed (room_in storage) dump };
+    ghost Makes = { λ _ size dump s. s ≡ listed (room_for size) dump };
 
-    fn text(&self, heap: Global, storage: &mut [u8], dump: &[u8]) -> anyhow::Result<String> {
-        Ok(listing_of(heap, storage, dump)?)
+    fn text(&self, heap: Global, size: usize, dump: &[u8]) -> anyhow::Result<String> {
+        Ok(listing_of(heap, size, dump)?)
     }
 }
 

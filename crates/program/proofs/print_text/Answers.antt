@@ -7,4 +7,4 @@ pub returns : goal.returns
 returns g c =
     IfSome_then (g.I.Read.remaining c.args.input.now) c.in_ok-read_to_end.ensures.bytes (λ bytes eq.
     let same : c.as_slice.result.now ≡ bytes = search rules in
-    (string_bytes c.in_ok-text.text, c.as_mut_slice.result.now, search rules, rw same at c.in_ok-text.ensures, search rules))
+    (string_bytes c.in_ok-text.text, rw same at c.in_ok-text.ensures, search rules))

@@ -31,7 +31,7 @@ impl Reel for HostReel<'_> {
 
     ghost few = { held_few };
 
-    ghost small = { λ x. room_small x.bytes.now };
+    ghost small = { λ x. room_small (length x.bytes.now) };
 
     fn count(&self) -> usize {
         self.count

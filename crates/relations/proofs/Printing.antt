@@ -1,0 +1,145 @@
+-- The examples of texts.
+use Rattle.std.proofs.Common.{◌≡◌, ℕ, ◌↔◌, List, [], ◌∷◌, ◌++◌, map, length, Ok, Err, sym, refl, ap, ◌∙◌, subst, arith, length-append, append-nil}
+use mathlib.Core.List.Memᴰ
+use mathlib.Core.List.{Memᴰ}
+use Rattle.std.proofs.lemmas.Option.{none-some}
+use Rattle.trace.specs.declared.event.Event.{Event}
+use Rattle.trace.specs.Records.{record_of}
+use Rattle.trace.proofs.Records.{record_means}
+use Rattle.answer.specs.declared.fault.PairFault.TheVariants.{NoEvent}
+use Rattle.answer.specs.declared.verdict.RacePair.{RacePair}
+use Rattle.session.specs.Entries.{Outcome, enter_all}
+use Rattle.session.specs.Questions.Answers.{refused}
+use Rattle.session.specs.Races.{PartnersOf, RacingPair, pair}
+use Rattle.session.specs.Races.Judged.{refused as judge_refused, race, no_race}
+use Rattle.session.proofs.Asked.{asked}
+use Rattle.run.specs.declared.Request.TheVariants.{Judge}
+use Rattle.run.specs.declared.Reply.{Reply}
+use Rattle.run.specs.declared.Reply.TheVariants.{Judge as Judges}
+use Rattle.run.specs.Runs.{Replies, Upholds}
+use Rattle.run.specs.Runs.Replies.{judged}
+use Rattle.report.specs.Reports.{RaceLines, SweepLines, Reported}
+use Rattle.report.specs.Reports.RaceLines.{none, more}
+use Rattle.report.specs.Texts.{events_line, refusal_line, After}
+use Rattle.replies.specs.Replies.{reply_lines}
+use Rattle.cases.specs.Examples.{three_accesses}
+use Rattle.cases.specs.Cases.{three_pairs}
+use Rattle.cases.proofs.Sweeping.{three_swept}
+use Rattle.relations.specs.Texts.{first, second, third, three_races, cut_record, three_refusals, LineOfPair, AllLines, PairsReported, RecordsReported, CutReported, NothingReported, RefusalsAnswered, RecordsAnswered, LinePlayed}
+use Rattle.relations.proofs.Running.{empty_upheld}
+
+no_line : RaceLines three_accesses (pair 0 1 ∷ []) [] → ⊥
+no_line l = elim l [ ]
+
+pub line_of_pair : LineOfPair
+line_of_pair = (subst (λ s. RaceLines three_accesses (pair 0 1 ∷ []) s) (append-nil _) (more refl refl none), λ l. no_line l)
+
+-- a text of no length has no lines
+no_lines : (xs : List RacePair) (text : List ℕ) → RaceLines three_accesses xs text → length text ≡ 0 → (x : RacePair) → Memᴰ x xs → ⊥
+no_lines xs text none e x m = Memᴰ.not-nil m
+no_lines xs text (more i j l) e x m = omega arith
+
+-- and so it is not one of all pairs
+no_sweep_lines : (text : List ℕ) → SweepLines three_accesses text → length text ≡ 0 → ⊥
+no_sweep_lines text h e =
+    no_lines h.pairs text h.lines e (pair 0 1) ((h.all.exact 0 1).1 ((three_swept.0.exact 0 1).0 (Memᴰ.head refl)))
+
+sweep_lines : SweepLines three_accesses three_races
+sweep_lines = record { pairs = three_pairs; all = three_swept.0; lines = more refl refl (more refl refl (more refl refl none)) }
+
+-- the read has one partner
+first_partner : PartnersOf three_accesses 1 (0 ∷ [])
+first_partner = record {
+  ascending = (λ m i. absurd (Memᴰ.not-nil i), tt);
+  exact = λ p. (
+    λ m. subst (λ k. RacingPair three_accesses k 1) (sym (Memᴰ.eq_of_singleton m)) ((three_swept.0.exact 0 1).0 (Memᴰ.head refl)),
+    λ r. let b = (asked three_accesses p 1 (sym r.0)).below in Memᴰ.head (omega arith),
+  );
+}
+
+pub all_lines : AllLines
+all_lines = (
+  sweep_lines,
+  λ h. no_sweep_lines [] h refl,
+  record { partners = 0 ∷ []; all = first_partner; lines = more refl refl none },
+  λ h. no_partner_lines h.partners ((h.all.exact 0).1 ((first_partner.exact 0).0 (Memᴰ.head refl))) h.lines,
+)
+  where
+    no_partner_lines : (ps : List ℕ) → Memᴰ 0 ps → RaceLines three_accesses (map (λ p. pair p 1) ps) [] → ⊥
+    no_partner_lines [] m l = Memᴰ.not-nil m
+    no_partner_lines (p ∷ ps) m l = no_lines (pair p 1 ∷ map (λ p. pair p 1) ps) [] l refl (pair p 1) (Memᴰ.head refl)
+
+not_reported : Reported three_accesses (events_line 3) → ⊥
+not_reported h =
+    no_sweep_lines h.races h.all (let i = ap length h.text_is ∙ length-append (events_line 3) h.races in omega arith)
+
+pub pairs_reported : PairsReported
+pairs_reported = (record { races = three_races; all = sweep_lines; text_is = refl }, not_reported)
+
+-- the records of the three accesses are taken
+three_taken : enter_all 3 [] (record_of first ++ (record_of second ++ record_of third)) ≡ record { answer = Ok 3; events = three_accesses }
+three_taken = rw (record_means first, record_means second, record_means third) refl
+
+pub records_reported : RecordsReported
+records_reported = (
+  subst (λ (o : Outcome ℕ). After Reported o.answer o.events (events_line 3 ++ three_races)) (sym three_taken) pairs_reported.0,
+  λ h. not_reported (subst (λ (o : Outcome ℕ). After Reported o.answer o.events (events_line 3)) three_taken h),
+)
+
+pub cut_reported : CutReported
+cut_reported room = (refl, λ h. let e : events_line 0 ++ [] ≡ refusal_line cut_record = h in grind arith)
+
+pub nothing_reported : NothingReported
+nothing_reported room = (
+  record { races = []; all = record { pairs = []; all = record { in_order = tt; exact = no_pairs }; lines = none }; text_is = refl },
+  λ h. let e = h.text_is in grind arith,
+)
+  where
+    no_pairs : (p q : ℕ) → Memᴰ (pair p q) [] ↔ RacingPair [] p q
+    no_pairs p q = (λ m. absurd (Memᴰ.not-nil m), λ r. absurd (none-some 8 (sym r.0)))
+
+pub refusals_answered : RefusalsAnswered
+refusals_answered list = (
+  record {
+    unordered = Err NoEvent;
+    schedulable = Err NoEvent;
+    vet = Err NoEvent;
+    unordered_is = refused refl;
+    schedulable_is = refused refl;
+    vet_is = refused refl;
+    text_is = refl;
+  },
+  λ h. let e = h.text_is in grind arith,
+)
+
+pub records_answered : RecordsAnswered
+records_answered room list = (
+  record {
+    unordered = Err NoEvent;
+    schedulable = Err NoEvent;
+    vet = Err NoEvent;
+    unordered_is = refused refl;
+    schedulable_is = refused refl;
+    vet_is = refused refl;
+    text_is = refl;
+  },
+  refl,
+  λ h. let e : three_refusals ≡ refusal_line cut_record = h in grind arith,
+)
+
+-- a reply to Judge has a line
+has_line : (room : ℕ) (t : List Event) (y : Reply) → Replies room t (Judge 0 1) y → [] ≡ reply_lines (y ∷ []) → ⊥
+has_line room t y (judged (judge_refused h)) e = grind arith
+has_line room t y (judged (race h r)) e = grind arith
+has_line room t y (judged (no_race h r)) e = grind arith
+
+no_text : (room : ℕ) (ys : List Reply) → Upholds room (Judge 0 1 ∷ []) ys → [] ≡ reply_lines ys → ⊥
+no_text room [] u e = let m = u.many in omega arith
+no_text room (y ∷ []) u e = has_line room [] y (u.each 0 (record { request = Judge 0 1; reply = y; request_is = refl; reply_is = refl })) e
+no_text room (y ∷ z ∷ ys) u e = let m = u.many in omega arith
+
+pub line_played : LinePlayed
+line_played room = (
+  record { replies = Judges (Err NoEvent) ∷ []; upheld = (empty_upheld room).0; text_is = refl },
+  λ h. no_text room h.replies h.upheld h.text_is,
+)

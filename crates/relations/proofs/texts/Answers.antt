@@ -1,0 +1,16 @@
+-- The examples of texts.
+use Rattle.relations.proofs.texts.Goals as goal
+use Rattle.relations.proofs.Printing.{line_of_pair, all_lines, pairs_reported, records_reported, cut_reported, nothing_reported, refusals_answered, records_answered, line_played}
+
+pub returns : goal.returns
+returns c = (
+  line_of_pair,
+  all_lines,
+  pairs_reported,
+  records_reported,
+  cut_reported,
+  nothing_reported,
+  refusals_answered,
+  records_answered,
+  line_played,
+)

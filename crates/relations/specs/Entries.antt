@@ -1,0 +1,54 @@
+-- What becomes of records that are offered to a session.
+use Rattle.std.specs.Prelude.{ℕ, List, [], ◌∷◌, Ok, Err, Result}
+use Rattle.trace.specs.declared.event.Event.{Event}
+use Rattle.trace.specs.declared.kind.Kind.TheVariants.{Read, Write, Acquire}
+use Rattle.trace.specs.declared.locks.LockTable.{LockTable}
+use Rattle.trace.specs.Records.{record_of}
+use Rattle.reel.specs.declared.ReelFault.TheVariants.{Full}
+use Rattle.answer.specs.declared.fault.EntryFault.{EntryFault}
+use Rattle.answer.specs.declared.fault.EntryFault.TheVariants.{Reel as ByReel}
+use Rattle.answer.specs.declared.fault.EntryRefusal.{EntryRefusal}
+use Rattle.answer.specs.Faults.{at_index}
+use Rattle.session.specs.States.{State}
+use Rattle.session.specs.Entries.{enter, Recorded, Stands, Takes}
+use Rattle.cases.specs.Examples.{event}
+use Rattle.relations.specs.Traces.{free_table, held_by}
+
+-- a session with room for one event
+abbrev with_room : List Event → State
+with_room t = record { trace = t; room = 1 }
+
+-- Enter says of the record of a write that it is taken, by a session that has these events then
+abbrev EntersWrite : List Event → Type 0
+EntersWrite after =
+    let e = event Write 0 0 tt tt in
+    let taken : Result (Unit {0}) EntryRefusal = Ok tt in
+    Takes (enter 1 [] (record_of e)) (with_room []) (record_of e) taken (with_room after)
+
+-- Enter takes the event; wrong: it says so and drops it, and it says so and takes another
+abbrev pub EventTaken : Type 0
+EventTaken =
+    EntersWrite (event Write 0 0 tt tt ∷ []) × (EntersWrite [] → ⊥) × (EntersWrite (event Write 1 0 tt tt ∷ []) → ⊥)
+
+-- a full session answers so to the record of a write, and has these events then
+abbrev RefusesWrite : EntryFault → ℕ → List Event → Type 0
+RefusesWrite fault index after =
+    let e = event Write 0 0 tt tt in
+    let refusal : Result (Unit {0}) EntryRefusal = Err (at_index index fault) in
+    Takes (enter 0 [] (record_of e)) (record { trace = []; room = 0 }) (record_of e) refusal (record { trace = after; room = 0 })
+
+-- a full session refuses a record with 7 and stays as it was; wrong: it has the event then, and the refusal names another record
+abbrev pub FullRefuses : Type 0
+FullRefuses = RefusesWrite (ByReel Full) 0 [] × (RefusesWrite (ByReel Full) 0 (event Write 0 0 tt tt ∷ []) → ⊥) × (RefusesWrite (ByReel Full) 1 [] → ⊥)
+
+-- the event is the one of the record; wrong: a read recorded as a write
+abbrev pub RecordedAsRead : Type 0
+RecordedAsRead =
+    let e = event Write 0 0 tt tt in
+    Recorded [] (record_of e) (e ∷ []) × (Recorded [] (record_of e) (event Read 0 0 tt tt ∷ []) → ⊥)
+
+-- the tables before and after an acquire; wrong: a session whose table of lock holders is that of a shorter trace
+abbrev pub StandsUpToDate : Type 0
+StandsUpToDate =
+    let e = event Acquire 0 0 tt tt in
+    Stands free_table [] × Stands (held_by 0) (e ∷ []) × ((table : LockTable) → Stands table [] → Stands table (e ∷ []) → ⊥)
