@@ -14,7 +14,7 @@ abbrev pub buffer_layer : BufferFault → Layer
 buffer_layer f = Buffer
 
 -- a list is written into a buffer: it stands at its start, the entries behind it stay, and the answer is its length; or it is longer than the
--- buffer, which then is full of its first entries, and refused with 12
+-- buffer, where as much of its start then stands as fits, and the answer is the refusal 12
 pub data Filled {A : Type 0} (list before : List A) : Result ℕ BufferFault → List A → Type 0 where
   whole : length list ≤ length before → Filled list before (Ok (length list)) (list ++ drop (length list) before)
   short : {f : BufferFault} → buffer_number f ≡ 12 → length before < length list → Filled list before (Err f) (take (length before) list)

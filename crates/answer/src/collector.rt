@@ -8,7 +8,7 @@ use trace::fault::Fault;
 /// Why a buffer takes no entry.
 #[derive(Clone, Copy, PartialEq, Eq, Debug)]
 pub enum BufferFault {
-    /// There are more entries than it holds.
+    /// More came than it has places for.
     Full,
 }
 
@@ -32,7 +32,6 @@ impl Layered for BufferFault {
 
 /// The first entries of the buffer are written, as many as `written` says; the others are as the caller left them. Where an entry found no
 /// place, `written` is the refusal, and all places are written; it and all further entries are let go.
-// a lent buffer, and how many are written, and no vector: the caller gives the memory
 #[derive(Drop)]
 pub struct Collector<'a, T> {
     entries: &'a mut [T],

@@ -19,9 +19,9 @@ pub enum Layer {
     Reel,
     /// The positions cannot be asked about.
     Pair,
-    /// The pair is no race.
+    /// There is no race to show.
     Verdict,
-    /// The buffer is too small.
+    /// The buffer is too short.
     Buffer,
 }
 
@@ -36,7 +36,7 @@ pub trait Layered: Fault {
         ensures { result ≡ layer self };
 }
 
-/// Why a record is not taken: the fault of the layer that refuses it, whole.
+/// Why a record is not taken: what the layer that refuses it says of it.
 #[derive(Clone, Copy, PartialEq, Debug)]
 pub enum EntryFault {
     Record(RecordFault),
@@ -95,11 +95,11 @@ impl From<ReelFault> for EntryFault {
 /// Why two positions cannot be asked about, in the order in which it is looked for.
 #[derive(Clone, Copy, PartialEq, Eq, Debug)]
 pub enum PairFault {
-    /// A position is not below the count.
+    /// One of them has no event.
     NoEvent,
-    /// The first position is not below the second.
+    /// The first is not the lower one.
     Order,
-    /// The two events do not conflict.
+    /// There is no conflict between their events.
     NoConflict,
 }
 

@@ -69,7 +69,7 @@ impl Entry for RacePair {
 pub enum WitnessFault {
     /// The two positions cannot be asked about.
     Pair(PairFault),
-    /// The pair is no race.
+    /// The two do not race.
     NoRace,
     /// The witness is longer than the buffer.
     Buffer(BufferFault),
@@ -118,9 +118,9 @@ impl From<BufferFault> for WitnessFault {
 /// Why there is no list of partners.
 #[derive(Clone, Copy, PartialEq, Debug)]
 pub enum PartnersFault {
-    /// The position is not below the count.
+    /// The position has no event.
     NoEvent,
-    /// There are more partners than the buffer holds.
+    /// The buffer has too few places for the partners.
     Buffer(BufferFault),
 }
 

@@ -5,6 +5,7 @@
 ghost use Rattle.cases.specs.Cases.{AllAdmitted, SectionsRace, SectionsOrdered, LockedNoRace, ReadNoRace, ReadRaces, ChainNoRace, ThreeSwept, OneLockedRaces};
 ghost use Rattle.cases.specs.Cases.{WitnessVetted, LocksRefused, PairsRefused, LastSubjects, SubjectsRefused, DumpLengths, LastRoom};
 
+pub mod lent;
 #[cfg(test)]
 mod tests;
 

@@ -22,7 +22,6 @@ fn record(kind: Kind, thread: u8, subject: u16) -> [u8; 8] {
 
 /// The record of an event that is written as its thread, a letter and its subject: w writes a variable, r reads one, a acquires a lock and z
 /// releases one.
-// no `FromStr`: what is made is an array of bytes, which is no type of this crate, and a type for it would be no plainer
 fn record_of(event: &str) -> Result<[u8; 8], Fail> {
     let [thread, letter, subject] = event.as_bytes() else {
         return Err(Fail::new("an event is three characters"));

@@ -9,7 +9,7 @@ use std::alloc::Global;
 use trace::event::Event;
 use trace::kind::Kind;
 
-// Not a generator of the crate rand, which would be no plainer: what is printed stands on just these numbers.
+// numbers of its own, so that what is printed stays the same
 /// A linear congruential generator, the shape of what it draws, and the thread that is at work.
 #[derive(Drop)]
 struct Generator {
@@ -20,7 +20,6 @@ struct Generator {
 
 impl Generator {
     /// A number below the bound; 0 where there is none.
-    // no Option: every shape that is drawn from has some of each, and an Option would need an answer where it has not
     fn below(&mut self, bound: u8) -> u8
         ensures { 0 < bound → result < bound }
     {
@@ -31,7 +30,6 @@ impl Generator {
         if bound == 0 {
             return 0;
         }
-        // a cast, since a remainder by a u8 is one, and a `try_from` would need an answer for one that is not
         ((self.state >> 33) % u64::from(bound)) as u8
     }
 

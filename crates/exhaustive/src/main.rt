@@ -2,8 +2,9 @@
 //! fixed generator draws; prints what was tried, and how many answers differ.
 #![tactic(auto)]
 
-use anyhow::bail;
 use plan::{Choice, Plan};
+use program::call::Program;
+use std::process::ExitCode;
 use tally::Tally;
 
 mod all;
@@ -16,6 +17,13 @@ mod shape;
 mod steps;
 mod tally;
 mod text;
+
+const EXHAUSTIVE: Program = Program {
+    name: "exhaustive",
+    usage: "exhaustive",
+    prints: "Compares the answers of sessions with a search through every reordering of many small traces,\nand prints what was tried. Ends with 1 where answers differ.",
+    most_words: 0,
+};
 
 /// Carries out every plan, prints of each what was tried, and adds it all.
 fn carry_out_all(rt: &HostRuntime) -> anyhow::Result<Tally> {
@@ -36,12 +44,23 @@ fn carry_out_all(rt: &HostRuntime) -> anyhow::Result<Tally> {
     Ok(total)
 }
 
-fn main(rt: HostRuntime) -> anyhow::Result<()> {
-    let total = carry_out_all(&rt)?;
-    println!(rt; "in all: {total}")?;
-    if let Some(trace) = total.differs {
-        println!(rt; "the first trace on which answers differ:{trace}")?;
-        bail!("answers differ");
+/// Carries out all, and shows whether answers differ.
+fn show(rt: &HostRuntime) -> anyhow::Result<ExitCode> {
+    if EXHAUSTIVE.words(rt)?.is_none() {
+        return Ok(ExitCode::SUCCESS);
     }
-    Ok(())
+    let total = carry_out_all(rt)?;
+    println!(rt; "in all: {total}")?;
+    match total.differs {
+        None => Ok(ExitCode::SUCCESS),
+        Some(trace) => {
+            println!(rt; "the first trace on which answers differ:{trace}")?;
+            Ok(ExitCode::FAILURE)
+        }
+    }
+}
+
+fn main(rt: HostRuntime) -> ExitCode {
+    let done = show(&rt);
+    EXHAUSTIVE.status(&rt, done)
 }

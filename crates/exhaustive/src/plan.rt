@@ -36,7 +36,6 @@ impl Plan {
 
     /// Tries the traces of the plan.
     pub(crate) fn carry_out(&self, heap: Global) -> anyhow::Result<Tally> {
-        // A closure for each choice would be no plainer: there are two, each with a number of its own, which is printed too.
         match self.choice {
             Choice::All { most } => compare_all(heap, self.shape, most),
             Choice::Drawn { traces } => compare_drawn(heap, self.shape, traces),

@@ -28,7 +28,6 @@ impl Tally {
             .count();
         self.traces = self.traces.saturating_add(1);
         self.reorderings = self.reorderings.saturating_add(search.reorderings);
-        // casts, since std has no `From<usize>` for u64, and a `try_from` would need an answer for what does not fit
         self.pairs = self.pairs.saturating_add(pairs as u64);
         self.races = self.races.saturating_add(races as u64);
     }

@@ -38,7 +38,6 @@ impl fmt::Display for Tally {
 }
 
 /// The letter of a kind.
-// a function, and no `Display`: Kind is a type of another crate, and a wrapper for its letter would be no plainer
 fn letter_of(kind: Kind) -> char {
     match kind {
         Kind::Read => 'r',

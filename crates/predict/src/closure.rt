@@ -11,8 +11,6 @@ use crate::lookup::previous;
 use crate::rule::Rule;
 use reel::Reel;
 
-// `Admits t →` stays a premise here: the functions take any reel, and a type for admitted traces alone would ask that of their callers
-
 /// Takes in the event at a position, if there is one, and all before it in its thread.
 fn take_in<R: Reel>(cut: &mut Cut, reel: &R, position: usize)
     ensures { let t = R.Reel.events reel.now in cut.new.bounds ≡ taken_in t cut.old.bounds position }
@@ -49,9 +47,6 @@ fn grown<R: Reel, S: Rule<R>>(rule: &S, reel: &R, start: Cut) -> Cut
     }
     cut
 }
-
-// four calls, of seeds or of the events after them, from nothing or from a cut on, and a loop that takes rule and reel as they do: one call
-// with options, or a struct of rule and reel, would be no plainer
 
 /// The closure of the seeds, from a cut on that has only events that the seeds reach.
 pub fn closure_from<R: Reel, S: Rule<R>>(rule: &S, reel: &R, start: Cut, seeds: &[usize]) -> Cut

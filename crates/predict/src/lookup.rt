@@ -18,7 +18,6 @@ fn is_of_thread_at<R: Reel>(reel: &R, position: usize, thread: u8) -> bool
 }
 
 /// Whether there is a write to the variable at the position.
-// not one function with `is_acquire_at`, over a kind: both contracts would be of a third definition beside `writes` and `acquires`, no plainer
 pub fn is_write_at<R: Reel>(reel: &R, position: usize, variable: u16) -> bool
     ensures { let t = R.Reel.events reel.now in result ≡ fits_here (writes variable) (slice_get t position) }
 {
@@ -41,7 +40,7 @@ fn is_release_at<R: Reel>(reel: &R, position: usize, lock: u16, thread: u8) -> b
     })
 }
 
-/// The latest earlier event of the thread of the event at a position.
+/// The last position before this one where its thread has an event.
 pub fn previous<R: Reel>(reel: &R, position: usize) -> Option<usize>
     ensures { let t = R.Reel.events reel.now in result ≡ previous t position }
 {
@@ -51,7 +50,7 @@ pub fn previous<R: Reel>(reel: &R, position: usize) -> Option<usize>
         .find(|earlier| is_of_thread_at(reel, *earlier, event.thread))
 }
 
-/// The latest earlier write to the variable of the read at a position.
+/// The last position before that of a read where its variable is written.
 pub fn last_write<R: Reel>(reel: &R, position: usize) -> Option<usize>
     ensures { let t = R.Reel.events reel.now in result ≡ last_write t position }
 {
@@ -63,7 +62,7 @@ pub fn last_write<R: Reel>(reel: &R, position: usize) -> Option<usize>
         .find(|earlier| is_write_at(reel, *earlier, read.subject))
 }
 
-/// The first release after a position of the lock of the event there, by its thread.
+/// Where the thread of the acquire at a position next releases its lock.
 pub(crate) fn release_of<R: Reel>(reel: &R, position: usize) -> Option<usize>
     ensures { let t = R.Reel.events reel.now in result ≡ release_of t position }
 {

@@ -3,11 +3,21 @@
 
 ghost use Rattle.reel.specs.Stored.{room_for};
 ghost use Rattle.report.specs.Reports.{ReportOf};
+ghost use Rattle.report.proofs.Deciding.{report_decided};
 
-use program::{InputText, print_text};
+use program::call::Program;
+use program::{DumpText, InputText, print_dump_text};
 use report::races::race_report_of;
 use std::alloc::Global;
 use std::io;
+use std::process::ExitCode;
+
+const RACEREPORT: Program = Program {
+    name: "racereport",
+    usage: "racereport < DUMP",
+    prints: "Prints the race report of a dump: the number of its events, and a line for each racing pair;\nor the first record that is refused.",
+    most_words: 0,
+};
 
 /// The race report.
 struct RaceReport {}
@@ -20,11 +30,20 @@ impl InputText for RaceReport {
     }
 }
 
-fn main(rt: HostRuntime) -> anyhow::Result<()> {
-    print_text(
-        rt.alloc(),
-        &mut rt.stdin(),
-        &mut io::writer(&rt),
-        &RaceReport {},
-    )
+impl DumpText for RaceReport {
+    ghost decided = { λ _. report_decided };
+}
+
+/// Prints the report.
+fn report(rt: &HostRuntime) -> anyhow::Result<ExitCode> {
+    if RACEREPORT.words(rt)?.is_some() {
+        let mut output = io::writer(rt);
+        print_dump_text(rt.alloc(), &mut rt.stdin(), &mut output, &RaceReport {})?;
+    }
+    Ok(ExitCode::SUCCESS)
+}
+
+fn main(rt: HostRuntime) -> ExitCode {
+    let done = report(&rt);
+    RACEREPORT.status(&rt, done)
 }

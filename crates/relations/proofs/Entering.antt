@@ -6,7 +6,7 @@ use Rattle.trace.specs.declared.kind.Kind.TheVariants.{Read, Write, Acquire}
 use Rattle.trace.specs.Records.{record_of}
 use Rattle.trace.proofs.Records.{record_means}
 use Rattle.cases.specs.Examples.{event}
-use Rattle.relations.specs.Entries.{EventTaken, FullRefuses, RecordedAsRead, StandsUpToDate}
+use Rattle.relations.specs.Entries.{EventTaken, FullRefuses, RecordedAsRead, StandsUpToDate, ByteEntered}
 use Rattle.relations.proofs.Tracing.{free_tells, held_tells, table_stays}
 
 pub event_taken : EventTaken
@@ -17,9 +17,12 @@ event_taken = (
     recorded = record { new = event Write 0 0 tt tt ∷ []; added = refl; as_recorded = refl };
     admitted = λ a. (refl, tt);
     room = refl;
+    lent = refl;
+    loan = refl;
   },
   λ h. let e = h.events in grind arith,
   λ h. let e = h.events in grind arith,
+  λ h. let e = h.lent in grind arith,
 )
 
 pub full_refuses : FullRefuses
@@ -30,9 +33,12 @@ full_refuses = (
     recorded = record { new = []; added = refl; as_recorded = refl };
     admitted = λ a. a;
     room = refl;
+    lent = refl;
+    loan = refl;
   },
   λ h. let e = h.events in grind arith,
   λ h. let e = h.answer in grind arith,
+  λ h. let e = h.lent in grind arith,
 )
 
 pub recorded_as_read : RecordedAsRead
@@ -49,4 +55,11 @@ stands_up_to_date = (
   record { admitted = tt; tells = free_tells },
   record { admitted = (refl, tt); tells = held_tells (event Acquire 0 0 tt tt) refl refl },
   λ table a b. table_stays table a.tells b.tells,
+)
+
+pub byte_entered : ByteEntered
+byte_entered = (
+  record { trace = refl; room = refl; lent = refl; loan = refl },
+  λ h. let e = h.trace in grind arith,
+  λ h. let e = h.lent in grind arith,
 )

@@ -1,5 +1,5 @@
 -- The examples of texts.
-use Rattle.std.proofs.Common.{◌≡◌, ℕ, ◌↔◌, List, [], ◌∷◌, ◌++◌, map, length, Ok, Err, sym, refl, ap, ◌∙◌, subst, arith, length-append, append-nil}
+use Rattle.std.proofs.Common.{◌≡◌, ℕ, ◌↔◌, List, [], ◌∷◌, ◌++◌, map, length, Some, None, Ok, Err, sym, refl, ap, ◌∙◌, subst, arith, length-append, append-nil}
 use mathlib.Core.List.Memᴰ
 use mathlib.Core.List.{Memᴰ}
 use Rattle.std.proofs.lemmas.Option.{none-some}
@@ -13,11 +13,10 @@ use Rattle.session.specs.Questions.Answers.{refused}
 use Rattle.session.specs.Races.{PartnersOf, RacingPair, pair}
 use Rattle.session.specs.Races.Judged.{refused as judge_refused, race, no_race}
 use Rattle.session.proofs.Asked.{asked}
-use Rattle.run.specs.declared.Request.TheVariants.{Judge}
-use Rattle.run.specs.declared.Reply.{Reply}
-use Rattle.run.specs.declared.Reply.TheVariants.{Judge as Judges}
-use Rattle.run.specs.Runs.{Replies, Upholds}
-use Rattle.run.specs.Runs.Replies.{judged}
+use Rattle.run.specs.declared.Call.{Call}
+use Rattle.run.specs.declared.Call.TheVariants.{Judge}
+use Rattle.run.specs.Runs.{Served, Upholds}
+use Rattle.run.specs.Runs.Served.{judged}
 use Rattle.report.specs.Reports.{RaceLines, SweepLines, Reported}
 use Rattle.report.specs.Reports.RaceLines.{none, more}
 use Rattle.report.specs.Texts.{events_line, refusal_line, After}
@@ -127,19 +126,19 @@ records_answered room list = (
   λ h. let e : three_refusals ≡ refusal_line cut_record = h in grind arith,
 )
 
--- a reply to Judge has a line
-has_line : (room : ℕ) (t : List Event) (y : Reply) → Replies room t (Judge 0 1) y → [] ≡ reply_lines (y ∷ []) → ⊥
+-- an answered Judge has a line
+has_line : (room : ℕ) (t : List Event) (y : Call) → Served room t (Judge 0 1 None) y → [] ≡ reply_lines (y ∷ []) → ⊥
 has_line room t y (judged (judge_refused h)) e = grind arith
 has_line room t y (judged (race h r)) e = grind arith
 has_line room t y (judged (no_race h r)) e = grind arith
 
-no_text : (room : ℕ) (ys : List Reply) → Upholds room (Judge 0 1 ∷ []) ys → [] ≡ reply_lines ys → ⊥
+no_text : (room : ℕ) (ys : List Call) → Upholds room (Judge 0 1 None ∷ []) ys → [] ≡ reply_lines ys → ⊥
 no_text room [] u e = let m = u.many in omega arith
-no_text room (y ∷ []) u e = has_line room [] y (u.each 0 (record { request = Judge 0 1; reply = y; request_is = refl; reply_is = refl })) e
+no_text room (y ∷ []) u e = has_line room [] y (u.each 0 (record { asked = Judge 0 1 None; answered = y; asked_is = refl; answered_is = refl })) e
 no_text room (y ∷ z ∷ ys) u e = let m = u.many in omega arith
 
 pub line_played : LinePlayed
 line_played room = (
-  record { replies = Judges (Err NoEvent) ∷ []; upheld = (empty_upheld room).0; text_is = refl },
-  λ h. no_text room h.replies h.upheld h.text_is,
+  record { back = Judge 0 1 (Some (Err NoEvent)) ∷ []; upheld = (empty_upheld room).0; text_is = refl },
+  λ h. no_text room h.back h.upheld h.text_is,
 )

@@ -11,35 +11,50 @@ use Rattle.answer.specs.declared.fault.EntryRefusal.{EntryRefusal}
 use Rattle.answer.specs.Faults.{at_index}
 use Rattle.session.specs.States.{State}
 use Rattle.session.specs.Entries.{enter, Recorded, Stands, Takes}
+use Rattle.report.specs.Texts.{EntersAll}
 use Rattle.cases.specs.Examples.{event}
 use Rattle.relations.specs.Traces.{free_table, held_by}
 
--- a session with room for one event
-abbrev with_room : List Event → State
-with_room t = record { trace = t; room = 1 }
+-- a session with room for one event, which is lent eight bytes that hold so
+abbrev with_room : List Event → List ℕ → State
+with_room t lent = record { trace = t; room = 1; lent = lent; loan = 0 ∷ [] }
 
--- Enter says of the record of a write that it is taken, by a session that has these events then
-abbrev EntersWrite : List Event → Type 0
-EntersWrite after =
+-- bytes of which no record was made
+abbrev pub blank : List ℕ
+blank = 9 ∷ 9 ∷ 9 ∷ 9 ∷ 9 ∷ 9 ∷ 9 ∷ 9 ∷ []
+
+-- Enter says of the record of a write that it is taken, by a session that has these events then, and these bytes
+abbrev EntersWrite : List Event → List ℕ → Type 0
+EntersWrite after lent =
     let e = event Write 0 0 tt tt in
     let taken : Result (Unit {0}) EntryRefusal = Ok tt in
-    Takes (enter 1 [] (record_of e)) (with_room []) (record_of e) taken (with_room after)
+    Takes (enter 1 [] (record_of e)) (with_room [] blank) (record_of e) taken (with_room after lent)
 
--- Enter takes the event; wrong: it says so and drops it, and it says so and takes another
+-- Enter takes the event, and its record is in the lent bytes; wrong: it says so and drops it, it says so and takes another, and the bytes stay
 abbrev pub EventTaken : Type 0
 EventTaken =
-    EntersWrite (event Write 0 0 tt tt ∷ []) × (EntersWrite [] → ⊥) × (EntersWrite (event Write 1 0 tt tt ∷ []) → ⊥)
+    let e = event Write 0 0 tt tt in
+    EntersWrite (e ∷ []) (record_of e) × (EntersWrite [] blank → ⊥) × (EntersWrite (event Write 1 0 tt tt ∷ []) (record_of e) → ⊥)
+    × (EntersWrite (e ∷ []) blank → ⊥)
 
--- a full session answers so to the record of a write, and has these events then
-abbrev RefusesWrite : EntryFault → ℕ → List Event → Type 0
-RefusesWrite fault index after =
+-- a session with no room
+abbrev full_with : List Event → List ℕ → State
+full_with t lent = record { trace = t; room = 0; lent = lent; loan = 0 ∷ [] }
+
+-- a full session answers so to the record of a write, and has these events then, and these bytes
+abbrev RefusesWrite : EntryFault → ℕ → List Event → List ℕ → Type 0
+RefusesWrite fault index after lent =
     let e = event Write 0 0 tt tt in
     let refusal : Result (Unit {0}) EntryRefusal = Err (at_index index fault) in
-    Takes (enter 0 [] (record_of e)) (record { trace = []; room = 0 }) (record_of e) refusal (record { trace = after; room = 0 })
+    Takes (enter 0 [] (record_of e)) (full_with [] blank) (record_of e) refusal (full_with after lent)
 
--- a full session refuses a record with 7 and stays as it was; wrong: it has the event then, and the refusal names another record
+-- a full session refuses a record with 7 and stays as it was; wrong: it has the event then, the refusal names another record, and the record is
+-- in the lent bytes
 abbrev pub FullRefuses : Type 0
-FullRefuses = RefusesWrite (ByReel Full) 0 [] × (RefusesWrite (ByReel Full) 0 (event Write 0 0 tt tt ∷ []) → ⊥) × (RefusesWrite (ByReel Full) 1 [] → ⊥)
+FullRefuses =
+    let e = event Write 0 0 tt tt in
+    RefusesWrite (ByReel Full) 0 [] blank × (RefusesWrite (ByReel Full) 0 (e ∷ []) blank → ⊥) × (RefusesWrite (ByReel Full) 1 [] blank → ⊥)
+    × (RefusesWrite (ByReel Full) 0 [] (record_of e) → ⊥)
 
 -- the event is the one of the record; wrong: a read recorded as a write
 abbrev pub RecordedAsRead : Type 0
@@ -52,3 +67,9 @@ abbrev pub StandsUpToDate : Type 0
 StandsUpToDate =
     let e = event Acquire 0 0 tt tt in
     Stands free_table [] × Stands (held_by 0) (e ∷ []) × ((table : LockTable) → Stands table [] → Stands table (e ∷ []) → ⊥)
+
+-- of an input of one byte nothing is entered; wrong: an event is, and the lent bytes are others
+abbrev pub ByteEntered : Type 0
+ByteEntered =
+    let entered : List Event → List ℕ → Type 0 = λ after lent. EntersAll (with_room [] blank) (1 ∷ []) (with_room after lent) in
+    entered [] blank × (entered (event Write 0 0 tt tt ∷ []) (record_of (event Write 0 0 tt tt)) → ⊥) × (entered [] [] → ⊥)

@@ -1,5 +1,5 @@
 -- The texts that the programs print.
-use Rattle.std.specs.Prelude.{ℕ, List, [], ◌∷◌, ◌++◌, Err}
+use Rattle.std.specs.Prelude.{ℕ, List, [], ◌∷◌, ◌++◌, Some, None, Err}
 use Rattle.trace.specs.declared.event.Event.{Event}
 use Rattle.trace.specs.declared.kind.Kind.TheVariants.{Read, Write}
 use Rattle.trace.specs.Records.{record_of}
@@ -7,8 +7,7 @@ use Rattle.answer.specs.declared.fault.Layer.TheVariants.{Record}
 use Rattle.answer.specs.declared.fault.PairFault.TheVariants.{NoEvent}
 use Rattle.answer.specs.Faults.{Refusal}
 use Rattle.session.specs.Races.{pair}
-use Rattle.run.specs.declared.Request.TheVariants.{Judge}
-use Rattle.run.specs.declared.Reply.TheVariants.{Judge as Judges}
+use Rattle.run.specs.declared.Call.TheVariants.{Judge}
 use Rattle.report.specs.Answers.{answer_text, three_lines, Answered, AnsweredOf}
 use Rattle.report.specs.Reports.{race_line, RaceLines, PartnerLines, SweepLines, Reported, ReportOf}
 use Rattle.report.specs.Texts.{events_line, refusal_line}
@@ -76,7 +75,7 @@ RecordsAnswered =
     → AnsweredOf room [] 0 1 list three_refusals × AnsweredOf room (1 ∷ []) 0 1 list (refusal_line cut_record)
     × (AnsweredOf room (1 ∷ []) 0 1 list three_refusals → ⊥)
 
--- the line of the reply is played; wrong: the empty text
+-- the line of the answer is played; wrong: the empty text
 abbrev pub LinePlayed : Type 0
 LinePlayed =
-    (room : ℕ) → Played room (Judge 0 1 ∷ []) (reply_line (Judges (Err NoEvent)) ++ []) × (Played room (Judge 0 1 ∷ []) [] → ⊥)
+    (room : ℕ) → Played room (Judge 0 1 None ∷ []) (reply_line (Judge 0 1 (Some (Err NoEvent))) ++ []) × (Played room (Judge 0 1 None ∷ []) [] → ⊥)

@@ -12,10 +12,10 @@ ghost use Rattle.relations.specs.Closures.{CutFromFirst, LessInside, ClosedWithR
 ghost use Rattle.relations.specs.Closures.{OutsideSections, FoundOutside};
 ghost use Rattle.relations.specs.Orders.{ReleaseFirst, SectionsInOrder, NotBeforeByRead, ReadInOrder, NotScheduledByOther};
 ghost use Rattle.relations.specs.Buffers.{FilledAtStart, FilledWhenShort, FilledCollects, CollectedAtStart, OfferedCounts, AddsCount};
-ghost use Rattle.relations.specs.Entries.{EventTaken, FullRefuses, RecordedAsRead, StandsUpToDate};
+ghost use Rattle.relations.specs.Entries.{EventTaken, FullRefuses, RecordedAsRead, StandsUpToDate, ByteEntered};
 ghost use Rattle.relations.specs.Races.{OtherVerdict, OtherAnswer, OtherRefusal, SchedulablePair, WitnessClosed, LeastShown, SectionShown, WitnessWritten};
 ghost use Rattle.relations.specs.Races.{PairsThatRace, BothPartners, AcquireAlone, PartnersWritten, PartnersRefused, PairsInOrder, SweepWhole, SweepFits};
-ghost use Rattle.relations.specs.Runs.{VerdictSays, ListSays, FullReplied, CutReplied, VerdictReplied, EmptyUpheld, EnteredStays};
+ghost use Rattle.relations.specs.Runs.{VerdictSays, ListSays, FullServed, CutServed, VerdictServed, EmptyUpheld, EnteredStays};
 ghost use Rattle.relations.specs.Runs.{RaceOnceEntered, VerdictStays, WitnessAgrees, WitnessStays};
 ghost use Rattle.relations.specs.Texts.{LineOfPair, AllLines, PairsReported, RecordsReported, CutReported, NothingReported, RefusalsAnswered};
 ghost use Rattle.relations.specs.Texts.{RecordsAnswered, LinePlayed};
@@ -59,7 +59,7 @@ pub fn buffers()
 
 /// Records that are offered to a session.
 pub fn entries()
-    ensures { EventTaken × FullRefuses × RecordedAsRead × StandsUpToDate }
+    ensures { EventTaken × FullRefuses × RecordedAsRead × StandsUpToDate × ByteEntered }
 {}
 
 /// Verdicts, witnesses, partners and sweeps.
@@ -68,9 +68,9 @@ pub fn races()
         × PairsThatRace × BothPartners × AcquireAlone × PartnersWritten × PartnersRefused × PairsInOrder × SweepWhole × SweepFits }
 {}
 
-/// Replies to calls, and whole runs.
+/// Calls and how they are answered, and whole runs.
 pub fn runs()
-    ensures { VerdictSays × ListSays × FullReplied × CutReplied × VerdictReplied × EmptyUpheld × EnteredStays × RaceOnceEntered
+    ensures { VerdictSays × ListSays × FullServed × CutServed × VerdictServed × EmptyUpheld × EnteredStays × RaceOnceEntered
         × VerdictStays × WitnessAgrees × WitnessStays }
 {}
 

@@ -53,7 +53,6 @@ impl<'a, R: Reel> Reordering<'a, R> {
         ensures { let t = R.Reel.events self.now.reel.now in (result ≡ true)
             ↔ ((d : ℕ) → Previous t position d → Memᴰ d self.now.list.now) }
     {
-        // tried as `is_none_or`: what its closure answers is not found from the contract inferred of it, and the proof does not close
         match previous(self.reel, position) {
             Some(earlier) => self.has(earlier),
             None => true,

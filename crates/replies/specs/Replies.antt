@@ -1,5 +1,5 @@
--- The text of the replies of a run: a line for each, in their order.
-use Rattle.std.specs.Prelude.{◌≡◌, ℕ, List, ◌++◌, Ok, Err, vec_items, codes, decimal, Result}
+-- The text of the answered calls of a run: a line for each, in their order.
+use Rattle.std.specs.Prelude.{◌≡◌, ℕ, List, ◌++◌, Some, None, Ok, Err, Option, vec_items, codes, decimal, Result}
 use Rattle.std.specs.List.{flat_map}
 use Rattle.answer.specs.declared.collector.BufferFault.{BufferFault}
 use Rattle.answer.specs.declared.fault.EntryRefusal.{EntryRefusal}
@@ -11,9 +11,8 @@ use Rattle.answer.specs.declared.verdict.Verdict.{Verdict as Judgement}
 use Rattle.answer.specs.declared.verdict.Verdict.TheVariants.{Race, NoRace}
 use Rattle.answer.specs.declared.verdict.WitnessFault.{WitnessFault}
 use Rattle.answer.specs.declared.verdict.PartnersFault.{PartnersFault}
-use Rattle.run.specs.declared.Request.{Request}
-use Rattle.run.specs.declared.Reply.{Reply}
-use Rattle.run.specs.declared.Reply.TheVariants.{Enter, Load, Judge, Witness, Partners, Sweep}
+use Rattle.run.specs.declared.Call.{Call}
+use Rattle.run.specs.declared.Call.TheVariants.{Enter, Load, Judge, Witness, Partners, Sweep}
 use Rattle.answer.specs.Faults.{Refusal, refusal, pair_number}
 use Rattle.answer.specs.Buffers.{buffer_number}
 use Rattle.answer.specs.Verdicts.{witness_number, partners_number}
@@ -57,53 +56,61 @@ counted_line call count entries = call ++ (codes " " ++ (decimal count ++ (codes
 abbrev pub refused_line : List ℕ → ℕ → List ℕ → List ℕ
 refused_line call number entries = call ++ (codes " refused " ++ (decimal number ++ (codes " buffer" ++ (entries ++ codes "\n"))))
 
+-- the line of a call that is still to be performed
+abbrev pub waiting_line : List ℕ → List ℕ
+waiting_line call = call ++ codes " not performed\n"
+
 -- the line of a call that fills a buffer: the word of the call, its answer or the number of its refusal, and the entries
-abbrev pub buffer_line : {F A : Type 0} → (F → ℕ) → (A → List ℕ) → List ℕ → Result ℕ F → List A → List ℕ
-buffer_line number entry call (Ok count) buffer = counted_line call count (flat_map entry buffer)
-buffer_line number entry call (Err f) buffer = refused_line call (number f) (flat_map entry buffer)
+abbrev pub buffer_line : {F A : Type 0} → (F → ℕ) → (A → List ℕ) → List ℕ → Option (Result ℕ F) → List A → List ℕ
+buffer_line number entry call (Some (Ok count)) buffer = counted_line call count (flat_map entry buffer)
+buffer_line number entry call (Some (Err f)) buffer = refused_line call (number f) (flat_map entry buffer)
+buffer_line number entry call None buffer = waiting_line call
 
 -- the line of Enter: that the record is taken, or what refuses it
-abbrev pub enter_line : Result (Unit {0}) EntryRefusal → List ℕ
-enter_line (Ok taken) = codes "enter taken\n"
-enter_line (Err r) = entry_refused_line (codes "enter") (refusal r)
+abbrev pub enter_line : Option (Result (Unit {0}) EntryRefusal) → List ℕ
+enter_line (Some (Ok taken)) = codes "enter taken\n"
+enter_line (Some (Err r)) = entry_refused_line (codes "enter") (refusal r)
+enter_line None = waiting_line (codes "enter")
 
 -- the line of Load: how many records it took, or what refuses one
-abbrev pub load_line : Result ℕ EntryRefusal → List ℕ
-load_line (Ok count) = codes "load " ++ (decimal count ++ codes "\n")
-load_line (Err r) = entry_refused_line (codes "load") (refusal r)
+abbrev pub load_line : Option (Result ℕ EntryRefusal) → List ℕ
+load_line (Some (Ok count)) = codes "load " ++ (decimal count ++ codes "\n")
+load_line (Some (Err r)) = entry_refused_line (codes "load") (refusal r)
+load_line None = waiting_line (codes "load")
 
 -- the line of Judge: the verdict, or the number of the refusal
-abbrev pub judge_line : Result Judgement PairFault → List ℕ
-judge_line (Ok verdict) = codes "judge " ++ (verdict_name verdict ++ codes "\n")
-judge_line (Err f) = codes "judge refused " ++ (decimal (pair_number f) ++ codes "\n")
+abbrev pub judge_line : Option (Result Judgement PairFault) → List ℕ
+judge_line (Some (Ok verdict)) = codes "judge " ++ (verdict_name verdict ++ codes "\n")
+judge_line (Some (Err f)) = codes "judge refused " ++ (decimal (pair_number f) ++ codes "\n")
+judge_line None = waiting_line (codes "judge")
 
 -- the line of Witness, with the positions in its buffer
-abbrev pub witness_line : Result ℕ WitnessFault → List ℕ → List ℕ
+abbrev pub witness_line : Option (Result ℕ WitnessFault) → List ℕ → List ℕ
 witness_line r buffer = buffer_line witness_number position_entry (codes "witness") r buffer
 
 -- the line of Partners, with the positions in its buffer
-abbrev pub partners_line : Result ℕ PartnersFault → List ℕ → List ℕ
+abbrev pub partners_line : Option (Result ℕ PartnersFault) → List ℕ → List ℕ
 partners_line r buffer = buffer_line partners_number position_entry (codes "partners") r buffer
 
 -- the line of Sweep, with the pairs in its buffer
-abbrev pub sweep_line : Result ℕ BufferFault → List RacePair → List ℕ
+abbrev pub sweep_line : Option (Result ℕ BufferFault) → List RacePair → List ℕ
 sweep_line r buffer = buffer_line buffer_number pair_entry (codes "sweep") r buffer
 
--- the line of a reply
-abbrev pub reply_line : Reply → List ℕ
-reply_line (Enter r) = enter_line r
-reply_line (Load r) = load_line r
-reply_line (Judge r) = judge_line r
-reply_line (Witness r buffer) = witness_line r (vec_items buffer)
-reply_line (Partners r buffer) = partners_line r (vec_items buffer)
-reply_line (Sweep r buffer) = sweep_line r (vec_items buffer)
+-- the line of a call, by what it answered
+abbrev pub reply_line : Call → List ℕ
+reply_line (Enter bytes r) = enter_line r
+reply_line (Load bytes r) = load_line r
+reply_line (Judge p q r) = judge_line r
+reply_line (Witness p q buffer r) = witness_line r (vec_items buffer)
+reply_line (Partners q buffer r) = partners_line r (vec_items buffer)
+reply_line (Sweep buffer r) = sweep_line r (vec_items buffer)
 
--- the lines of replies
-abbrev pub reply_lines : List Reply → List ℕ
-reply_lines replies = flat_map reply_line replies
+-- the lines of calls
+abbrev pub reply_lines : List Call → List ℕ
+reply_lines calls = flat_map reply_line calls
 
--- the text has the lines of replies to these requests, which keep the promise over whole runs
-pub record Played (room : ℕ) (requests : List Request) (text : List ℕ) : Type 0 where
-  pub replies : List Reply
-  pub upheld : Upholds room requests replies
-  pub text_is : text ≡ reply_lines replies
+-- the text has the lines of these calls as they come back from a run that keeps the promise over whole runs
+pub record Played (room : ℕ) (calls : List Call) (text : List ℕ) : Type 0 where
+  pub back : List Call
+  pub upheld : Upholds room calls back
+  pub text_is : text ≡ reply_lines back

@@ -1,4 +1,4 @@
-//! The lines of the replies of a run.
+//! The lines of the answered calls of a run.
 #![tactic(auto)]
 
 ghost use Rattle.std.specs.Prelude.{◌≡◌, ℕ, List, IfOk, Some, vec_items, string_bytes};
@@ -6,21 +6,19 @@ ghost use Rattle.std.specs.Fmt.{DisplaysOnOk};
 ghost use Rattle.std.specs.List.{flat_map};
 ghost use Rattle.reel.specs.Stored.{room_for};
 ghost use Rattle.answer.specs.Faults.{refusal};
-ghost use Rattle.replies.specs.Replies.{layer_name, verdict_name, position_entry, pair_entry, refused_entry, buffer_line, reply_line, reply_lines, Played};
+ghost use Rattle.replies.specs.Replies.{layer_name, verdict_name, position_entry, pair_entry, refused_entry, buffer_line, enter_line, load_line, judge_line, reply_line, reply_lines, Played};
 
-use answer::fault::{EntryRefusal, Layer, Layered};
+use answer::fault::{EntryRefusal, Layer, Layered, PairFault};
 use answer::verdict::{RacePair, Verdict};
-use reel::Reel;
 use reel::host::HostReel;
-use run::{Reply, Request, perform};
+use run::{Call, perform};
 use std::alloc::{AllocError, Global};
 use std::fmt;
 use std::fmt::Display;
 use trace::fault::Fault;
 
 /// What has a text of its own here.
-// Not `Display`: an impl of it for a type of another crate is refused (`orphan-impl`), and a wrapper of each entry, with a trait that makes it
-// of the entry, would be no plainer.
+// a trait of our own, since `Display` is not to be had for types of other crates
 trait Text {
     ghost text: { Self → List ℕ };
 
@@ -114,17 +112,21 @@ impl fmt::Display for RefusedEntry {
     }
 }
 
-/// The line of a call that answers how many entries it has for its buffer, or is refused.
+/// The line of a call that fills a buffer: it answers how many entries it has, or is refused, or is still to be performed.
 #[derive(Drop)]
 struct BufferLine<'a, F, T> {
     call: &'static str,
-    answer: Result<usize, F>,
+    answer: Option<Result<usize, F>>,
     buffer: &'a [T],
 }
 
 impl<'a, F: Fault, T> BufferLine<'a, F, T> {
     /// The line of the call with this answer and this buffer.
-    fn of(call: &'static str, answer: &Result<usize, F>, buffer: &'a Vec<T>) -> BufferLine<'a, F, T>
+    fn of(
+        call: &'static str,
+        answer: &Option<Result<usize, F>>,
+        buffer: &'a Vec<T>,
+    ) -> BufferLine<'a, F, T>
         ensures call { result.call.now ≡ call.now }
         ensures answer { result.answer ≡ answer.now }
         ensures buffer { result.buffer.now ≡ vec_items buffer.now }
@@ -144,51 +146,101 @@ impl<F: Fault, T: Text> fmt::Display for BufferLine<'_, F, T> {
         let call = self.call;
         let entries = Texts(self.buffer);
         match self.answer {
-            Ok(count) => writeln!(f, "{call} {count} buffer{entries}"),
-            Err(fault) => {
+            Some(Ok(count)) => writeln!(f, "{call} {count} buffer{entries}"),
+            Some(Err(fault)) => {
                 let number = fault.number();
                 writeln!(f, "{call} refused {number} buffer{entries}")
             }
+            None => writeln!(f, "{call} not performed"),
         }
     }
 }
 
-/// The line of a reply.
+/// The line of Enter.
+#[derive(Clone, Copy)]
+struct EnterLine(Option<Result<(), EntryRefusal>>);
+
+impl fmt::Display for EnterLine {
+    ghost output = { λ l. Some (enter_line l.0) };
+
+    fn fmt<W: fmt::Write>(&self, f: &mut fmt::Formatter<W>) -> fmt::Result {
+        match self.0 {
+            Some(Ok(())) => writeln!(f, "enter taken"),
+            Some(Err(refused)) => {
+                let refused = RefusedEntry(refused);
+                writeln!(f, "enter {refused}")
+            }
+            None => writeln!(f, "enter not performed"),
+        }
+    }
+}
+
+/// The line of Load.
+#[derive(Clone, Copy)]
+struct LoadLine(Option<Result<usize, EntryRefusal>>);
+
+impl fmt::Display for LoadLine {
+    ghost output = { λ l. Some (load_line l.0) };
+
+    fn fmt<W: fmt::Write>(&self, f: &mut fmt::Formatter<W>) -> fmt::Result {
+        match self.0 {
+            Some(Ok(count)) => writeln!(f, "load {count}"),
+            Some(Err(refused)) => {
+                let refused = RefusedEntry(refused);
+                writeln!(f, "load {refused}")
+            }
+            None => writeln!(f, "load not performed"),
+        }
+    }
+}
+
+/// The line of Judge.
+#[derive(Clone, Copy)]
+struct JudgeLine(Option<Result<Verdict, PairFault>>);
+
+impl fmt::Display for JudgeLine {
+    ghost output = { λ l. Some (judge_line l.0) };
+
+    fn fmt<W: fmt::Write>(&self, f: &mut fmt::Formatter<W>) -> fmt::Result {
+        match self.0 {
+            Some(Ok(verdict)) => {
+                let verdict = VerdictName(verdict);
+                writeln!(f, "judge {verdict}")
+            }
+            Some(Err(fault)) => {
+                let number = fault.number();
+                writeln!(f, "judge refused {number}")
+            }
+            None => writeln!(f, "judge not performed"),
+        }
+    }
+}
+
+/// The line of a call.
 #[derive(Drop)]
-struct Line<'a>(&'a Reply);
+struct Line<'a>(&'a Call);
 
 impl fmt::Display for Line<'_> {
     ghost output = { λ l. Some (reply_line l.0.now) };
 
     fn fmt<W: fmt::Write>(&self, f: &mut fmt::Formatter<W>) -> fmt::Result {
         match self.0 {
-            Reply::Enter(Ok(())) => writeln!(f, "enter taken"),
-            Reply::Enter(Err(refused)) => {
-                let refused = RefusedEntry(*refused);
-                writeln!(f, "enter {refused}")
+            Call::Enter { answer, .. } => EnterLine(*answer).fmt(f),
+            Call::Load { answer, .. } => LoadLine(*answer).fmt(f),
+            Call::Judge { answer, .. } => JudgeLine(*answer).fmt(f),
+            Call::Witness { buffer, answer, .. } => {
+                BufferLine::of("witness", answer, buffer).fmt(f)
             }
-            Reply::Load(Ok(count)) => writeln!(f, "load {count}"),
-            Reply::Load(Err(refused)) => {
-                let refused = RefusedEntry(*refused);
-                writeln!(f, "load {refused}")
+            Call::Partners { buffer, answer, .. } => {
+                BufferLine::of("partners", answer, buffer).fmt(f)
             }
-            Reply::Judge(Ok(verdict)) => {
-                let verdict = VerdictName(*verdict);
-                writeln!(f, "judge {verdict}")
-            }
-            Reply::Judge(Err(fault)) => {
-                let number = fault.number();
-                writeln!(f, "judge refused {number}")
-            }
-            Reply::Witness(answer, buffer) => BufferLine::of("witness", answer, buffer).fmt(f),
-            Reply::Partners(answer, buffer) => BufferLine::of("partners", answer, buffer).fmt(f),
-            Reply::Sweep(answer, buffer) => BufferLine::of("sweep", answer, buffer).fmt(f),
+            Call::Sweep { buffer, answer } => BufferLine::of("sweep", answer, buffer).fmt(f),
         }
     }
 }
 
-/// The text of a reply is its line.
-impl Text for Reply {
+/// The text of a call is its line.
+impl Text for Call {
     ghost text = { reply_line };
 
     fn write_to<W: fmt::Write>(&self, f: &mut fmt::Formatter<W>) -> fmt::Result {
@@ -196,36 +248,26 @@ impl Text for Reply {
     }
 }
 
-/// The text of the line of a reply.
-pub fn reply_line(heap: Global, reply: &Reply) -> Result<String, AllocError>
-    ensures { IfOk result (λ s. string_bytes s ≡ reply_line reply.now) }
+/// The text of the line of a call.
+pub fn reply_line(heap: Global, call: &Call) -> Result<String, AllocError>
+    ensures { IfOk result (λ s. string_bytes s ≡ reply_line call.now) }
 {
-    Line(reply).to_string(heap)
+    Line(call).to_string(heap)
 }
 
-/// The lines of replies, in their order.
-pub fn reply_lines(heap: Global, replies: &[Reply]) -> Result<String, AllocError>
-    ensures { IfOk result (λ s. string_bytes s ≡ reply_lines replies.now) }
+/// The lines of calls, in their order.
+pub fn reply_lines(heap: Global, calls: &[Call]) -> Result<String, AllocError>
+    ensures { IfOk result (λ s. string_bytes s ≡ reply_lines calls.now) }
 {
-    Texts(replies).to_string(heap)
+    Texts(calls).to_string(heap)
 }
 
-/// Performs the requests one after another on a session that is opened over the reel, and returns the lines of the replies.
-pub fn played<R: Reel + Drop>(
-    heap: Global,
-    reel: R,
-    requests: &[Request],
-) -> Result<String, AllocError>
-    ensures { IfOk result (λ s. Played (R.Reel.room reel) requests.now (string_bytes s)) }
-{
-    let replies = perform(heap, reel, requests)?;
-    reply_lines(heap, replies.as_slice())
-}
-
-/// The same over a host reel in `size` bytes, which are made here.
-pub fn played_in(heap: Global, size: usize, requests: &[Request]) -> Result<String, AllocError>
-    ensures { IfOk result (λ s. Played (room_for size) requests.now (string_bytes s)) }
+/// Performs the calls one after another on a session that is opened over a host reel in `size` bytes, which are made here, and returns
+/// their lines.
+pub fn played_in(heap: Global, size: usize, mut calls: Vec<Call>) -> Result<String, AllocError>
+    ensures { IfOk result (λ s. Played (room_for size) (vec_items calls) (string_bytes s)) }
 {
     let mut storage = vec![in heap; 0u8; size]?;
-    played(heap, HostReel::over(storage.as_mut_slice()), requests)
+    let _session = perform(HostReel::over(storage.as_mut_slice()), calls.as_mut_slice());
+    reply_lines(heap, calls.as_slice())
 }

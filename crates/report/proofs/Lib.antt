@@ -1,5 +1,5 @@
 -- The lemmas, each file after those that it uses.
 pub mod Lines
 pub mod Pairs
-pub mod Records
 pub mod Gathered
+pub mod Deciding

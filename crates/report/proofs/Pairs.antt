@@ -27,18 +27,6 @@ module _ (t : List Event) where
     partner_asked : (i : ℕ) → i < length ps → Asked t (get_or ps i 0) q
     partner_asked i inside = let p = get_or ps i 0 in asked t p q (sym ((partners.exact p).0 (in_list ps i inside)).0)
 
-    -- so where q has none, there are no partners
-    pub lines_nowhere : None ≡ slice_get t q → RaceLines t (map (λ p. pair p q) ps) []
-    lines_nowhere missing = by ps refl
-      where
-        by : (xs : List ℕ) → ps ≡ xs → RaceLines t (map (λ p. pair p q) xs) []
-        by [] is = none
-        by (x ∷ xs) is =
-            let a = partner_asked 0 (rw is (omega arith)) in
-            let i = a.second_is in
-            let z : ◌≡◌ {A = ℕ} 0 1 = cc in
-            absurd (omega arith)
-
     -- the next partner has an event
     pub partner_event : (i p : ℕ) → i < length ps → p ≡ get_or ps i 0 → None ≡ slice_get t p → ⊥
     partner_event i p inside is missing =

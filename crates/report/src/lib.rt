@@ -5,3 +5,4 @@ pub mod listing;
 pub mod questions;
 pub mod races;
 mod texts;
+pub mod theorems;

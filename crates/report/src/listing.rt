@@ -4,7 +4,7 @@ ghost use Rattle.reel.specs.Stored.{room_for};
 ghost use Rattle.answer.specs.Faults.{refusal};
 ghost use Rattle.report.specs.Texts.{deed, event_line, event_lines, events_line, listing, refusal_line, listing_of};
 
-use crate::texts::{SessionText, text_in, text_over};
+use crate::texts::{SessionText, text_in};
 use answer::fault::EntryRefusal;
 use reel::Reel;
 use session::session::Session;
@@ -137,18 +137,7 @@ impl SessionText for ListingText {
     }
 }
 
-/// The listing of the records in `input`, which are kept in the reel, or the line of the first that is refused.
-pub fn listing_over<R: Reel + Drop>(
-    heap: Global,
-    reel: R,
-    input: &[u8],
-) -> Result<String, AllocError>
-    ensures { IfOk result (λ s. string_bytes s ≡ listing_of (R.Reel.room reel) input.now) }
-{
-    text_over(heap, reel, input, &ListingText)
-}
-
-/// The same with `size` bytes to keep the events in.
+/// The listing of the records in `input`, or the line of the first that is refused, with `size` bytes to keep the events in.
 pub fn listing_of(heap: Global, size: usize, input: &[u8]) -> Result<String, AllocError>
     ensures { IfOk result (λ s. string_bytes s ≡ listing_of (room_for size) input.now) }
 {

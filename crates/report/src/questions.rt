@@ -5,7 +5,7 @@ ghost use Rattle.reel.specs.Stored.{room_for};
 ghost use Rattle.answer.specs.Faults.{pair_number};
 ghost use Rattle.report.specs.Answers.{answer_text, three_lines, Answered, AnsweredOf};
 
-use crate::texts::{SessionText, text_in, text_over};
+use crate::texts::{SessionText, text_in};
 use answer::fault::PairFault;
 use reel::Reel;
 use session::session::Session;
@@ -56,7 +56,6 @@ impl fmt::Display for AnswerLines {
 }
 
 /// The answers to Unordered, Schedulable and Vet.
-// The public functions take the positions and the list apart: a struct of them, as `AnswersText`, would be made by each caller, no plainer.
 pub fn answers<R: Reel>(
     heap: Global,
     session: &Session<R>,
@@ -90,21 +89,7 @@ impl SessionText for AnswersText<'_> {
     }
 }
 
-/// The answers about the records in `input`, which are kept in the reel, or the line of the first that is refused.
-pub fn answers_over<R: Reel + Drop>(
-    heap: Global,
-    reel: R,
-    input: &[u8],
-    p: usize,
-    q: usize,
-    list: &[u16],
-) -> Result<String, AllocError>
-    ensures { IfOk result (λ s. AnsweredOf (R.Reel.room reel) input.now p q list.now (string_bytes s)) }
-{
-    text_over(heap, reel, input, &AnswersText { p, q, list })
-}
-
-/// The same with `size` bytes to keep the events in.
+/// The answers about the records in `input`, or the line of the first that is refused, with `size` bytes to keep the events in.
 pub fn answers_of(
     heap: Global,
     size: usize,

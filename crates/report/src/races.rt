@@ -1,11 +1,11 @@
 //! The race report of a dump: the number of its events and a line for each racing pair, or the line of the first refusal.
-ghost use Rattle.std.specs.Prelude.{◌≡◌, ◌≤◌, map, length, IfOk, Some, string_bytes};
+ghost use Rattle.std.specs.Prelude.{◌≡◌, ◌<◌, ◌≤◌, map, length, IfOk, Some, string_bytes};
 ghost use Rattle.reel.specs.Stored.{room_for};
 ghost use Rattle.session.specs.Races.{PartnersOf, pair};
 ghost use Rattle.report.specs.Reports.{race_line, RaceLines, PartnerLines, SweepLines, Reported, ReportOf};
 
 use crate::listing::EventsLine;
-use crate::texts::{SessionText, text_in, text_over};
+use crate::texts::{SessionText, text_in};
 use reel::Reel;
 use session::session::Session;
 use std::alloc::{AllocError, Global};
@@ -59,41 +59,45 @@ fn pair_lines<R: Reel>(
     q: usize,
     partners: &[u16],
 ) -> Result<String, AllocError>
-    ensures { let t = session.now.trace in (PartnersOf t q partners.now
-        → IfOk result (λ s. RaceLines t (map (λ p. pair p q) partners.now) (string_bytes s))) }
+    requires inside { q < length session.now.trace }
+    requires partners { PartnersOf session.now.trace q partners.now }
+    ensures { IfOk result (λ s. RaceLines session.now.trace (map (λ p. pair p q) partners.now) (string_bytes s)) }
 {
     let mut text = String::new(heap);
     let Some(second) = session.event(q) else {
-        return Ok(text);
+        unreachable!()
     };
     for partner in partners {
         let p = usize::from(*partner);
-        if let Some(first) = session.event(p) {
-            let line = RaceLine {
-                p,
-                q,
-                first,
-                second,
-            };
-            write!(text, "{line}")?;
-        }
+        let Some(first) = session.event(p) else {
+            unreachable!()
+        };
+        let line = RaceLine {
+            p,
+            q,
+            first,
+            second,
+        };
+        write!(text, "{line}")?;
     }
     Ok(text)
 }
 
-/// The lines of the racing pairs whose later position is q; its partners are gathered in the buffer.
+/// The lines of the racing pairs whose later position is q; its partners are gathered in the buffer, which has a place for each.
 fn partner_lines<R: Reel>(
     heap: Global,
     session: &Session<R>,
     q: usize,
     buffer: &mut [u16],
 ) -> Result<String, AllocError>
-    ensures { let t = session.now.trace in (length t ≤ length buffer.old → IfOk result (λ s. PartnerLines t q (string_bytes s))) }
+    requires inside { q < length session.now.trace }
+    requires places { length session.now.trace ≤ length buffer.old }
+    ensures { IfOk result (λ s. PartnerLines session.now.trace q (string_bytes s)) }
 {
-    // no `?`: the function fails by memory alone, and this refusal never comes, since q is a position and the buffer has a place for each partner
-    let count = session.partners(q, buffer).unwrap_or(0);
-    let partners = buffer.get(0..count).unwrap_or(&[]);
-    pair_lines(heap, session, q, partners)
+    let Ok(count) = session.partners(q, buffer) else {
+        unreachable!()
+    };
+    pair_lines(heap, session, q, &buffer[..count])
 }
 
 /// The lines of a session's racing pairs, one later position after another.
@@ -103,7 +107,6 @@ fn race_lines<R: Reel>(heap: Global, session: &Session<R>) -> Result<String, All
     let mut text = String::new(heap);
     let count = session.count();
     let mut buffer = vec![in heap; 0u16; count]?;
-    // a range, since Partners is asked about each position by its number; a chain would change the text that it captures, no plainer
     for q in 0..count {
         let lines = partner_lines(heap, session, q, buffer.as_mut_slice())?;
         text.push_str(lines.as_str())?;
@@ -132,18 +135,7 @@ impl SessionText for RaceReportText {
     }
 }
 
-/// The race report of the records in `input`, which are kept in the reel, or the line of the first that is refused.
-pub fn race_report_over<R: Reel + Drop>(
-    heap: Global,
-    reel: R,
-    input: &[u8],
-) -> Result<String, AllocError>
-    ensures { IfOk result (λ s. ReportOf (R.Reel.room reel) input.now (string_bytes s)) }
-{
-    text_over(heap, reel, input, &RaceReportText)
-}
-
-/// The same with `size` bytes to keep the events in.
+/// The race report of the records in `input`, or the line of the first that is refused, with `size` bytes to keep the events in.
 pub fn race_report_of(heap: Global, size: usize, input: &[u8]) -> Result<String, AllocError>
     ensures { IfOk result (λ s. ReportOf (room_for size) input.now (string_bytes s)) }
 {

@@ -1,5 +1,5 @@
--- What replies say of a pair lasts.
-use Rattle.std.proofs.Common.{◌≡◌, ℕ, ◌<◌, ◌≤◌, List, ◌++◌, length, take, drop, None, Ok, Err, vec_items, Result, Vec, sym, refl, subst, arith, lit≤}
+-- What answered calls say of a pair lasts.
+use Rattle.std.proofs.Common.{◌≡◌, ℕ, ◌<◌, ◌≤◌, List, ◌++◌, length, take, drop, Some, None, Ok, Err, vec_items, Result, Vec, sym, refl, subst, arith, lit≤}
 use mathlib.Core.List.{Memᴰ}
 use Rattle.std.specs.declared.alloc.Global.{Global}
 use Rattle.std.proofs.lemmas.List.{take_at}
@@ -12,10 +12,8 @@ use Rattle.answer.specs.declared.fault.PairFault.{PairFault}
 use Rattle.answer.specs.declared.fault.PairFault.TheVariants.{NoEvent, Order, NoConflict}
 use Rattle.answer.specs.declared.verdict.WitnessFault.{WitnessFault}
 use Rattle.answer.specs.declared.verdict.PartnersFault.{PartnersFault}
-use Rattle.run.specs.declared.Request.{Request}
-use Rattle.run.specs.declared.Request.TheVariants.{Witness}
-use Rattle.run.specs.declared.Reply.{Reply}
-use Rattle.run.specs.declared.Reply.TheVariants.{Witness as Witnesses}
+use Rattle.run.specs.declared.Call.{Call}
+use Rattle.run.specs.declared.Call.TheVariants.{Witness}
 use Rattle.answer.specs.Buffers.{Filled}
 use Rattle.answer.specs.Buffers.Filled.{whole, short}
 use Rattle.answer.specs.Faults.{pair_number}
@@ -25,8 +23,8 @@ use Rattle.session.specs.Races.{Races, RacingPair, Shows, Witnessed, PartnersOf,
 use Rattle.session.specs.Races.Judged.{refused as judge_refused, race, no_race}
 use Rattle.session.specs.Races.Witnessed.{refused as witness_refused, no_race as no_witness, written}
 use Rattle.session.specs.Races.Partnered.{refused as partners_refused, written as partners_written}
-use Rattle.run.specs.Runs.{Replies, Says}
-use Rattle.run.specs.Runs.Replies.{entered, loaded, judged, witnessed, partnered, swept}
+use Rattle.run.specs.Runs.{Served, Says}
+use Rattle.run.specs.Runs.Served.{entered, loaded, judged, witnessed, partnered, swept}
 use Rattle.run.specs.Runs.Says.{by_judge, by_witness, by_long_witness, by_no_witness, by_partner, by_no_partner, by_sweep, by_no_sweep}
 use Rattle.session.proofs.Asked.{asked}
 use Rattle.run.proofs.Lasting.{racing_longer}
@@ -85,8 +83,8 @@ partners_means t q before r after (partners_written {ps} {r = Ok n} inside partn
     (inside, subst (PartnersOf t q) (sym (filled_front ps before n after f)) partners)
 partners_means t q before r after (partners_written {r = Err f} inside partners g) = tt
 
--- what a reply says of a pair is right
-pub says_right : (room : ℕ) (t : List Event) (p q : ℕ) (x : Request) (y : Reply) (v : Verdict) → Replies room t x y → Says t p q x y v → Decided t p q v
+-- what an answered call says of a pair is right
+pub says_right : (room : ℕ) (t : List Event) (p q : ℕ) (x y : Call) (v : Verdict) → Served room t x y → Says t p q y v → Decided t p q v
 unfolding WitnessMeans PartnersMeans
 says_right room t p q x y v (entered h) s = elim s [ ]
 says_right room t p q x y v (loaded h) s = elim s [ ]
@@ -122,8 +120,8 @@ same_verdict t u p q Race NoRace ok d e = absurd (e.right ((racing_longer t u p 
 same_verdict t u p q NoRace Race ok d e = absurd (d.right ((racing_longer t u p q ok d.below d.inside).1 e.right))
 
 -- an answered Witness shows a race
-pub witness_answered : (room : ℕ) (t : List Event) (p q n : ℕ) (before after : Vec ℕ Global) → Replies room t (Witness p q before) (Witnesses (Ok n) after)
+pub witness_answered : (room : ℕ) (t : List Event) (p q n : ℕ) (x : Call) (after : Vec ℕ Global) → Served room t x (Witness p q after (Some (Ok n)))
     → Decided t p q Race × Shows t p q (take n (vec_items after))
 unfolding WitnessMeans
-witness_answered room t p q n before after (witnessed w) =
+witness_answered room t p q n x after (witnessed {before = before} w) =
     let m = witness_means t p q (vec_items before) (Ok n) (vec_items after) w in (decided t p q Race m.0.0 m.0, m.1)

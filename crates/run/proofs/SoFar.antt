@@ -6,8 +6,8 @@ use Rattle.trace.specs.Traces.{all_free, Allowed, Admits, holders_after, trace_r
 use Rattle.trace.proofs.Holders.{admits_push}
 use Rattle.reel.specs.Reels.{reel_refusal}
 use Rattle.answer.specs.declared.fault.Layer.TheVariants.{Trace, Reel}
-use Rattle.run.specs.declared.Request.{Request}
-use Rattle.run.specs.declared.Request.TheVariants.{Enter, Load, Judge, Witness, Partners, Sweep}
+use Rattle.run.specs.declared.Call.{Call}
+use Rattle.run.specs.declared.Call.TheVariants.{Enter, Load, Judge, Witness, Partners, Sweep}
 use Rattle.answer.specs.Faults.{Refusal}
 use Rattle.session.specs.Entries.{Outcome, unless, checked, offered, then, enter_from, record_count, records, load}
 use Rattle.run.specs.Runs.{trace_after, so_far}
@@ -61,25 +61,26 @@ module _ (room : ℕ) where
       by true o is = from_goes t 0 (records (record_count dump) dump)
       by false o is = rw is (stays t)
 
-  request_goes : (t : List Event) (r : Request) → Goes t (trace_after room t r)
-  request_goes t (Enter bytes) = then_goes t 0 (vec_items bytes) _ stays
-  request_goes t (Load bytes) = load_goes t (vec_items bytes)
-  request_goes t (Judge p q) = stays t
-  request_goes t (Witness p q buffer) = stays t
-  request_goes t (Partners q buffer) = stays t
-  request_goes t (Sweep buffer) = stays t
+  -- so does each call
+  pub call_goes : (t : List Event) (c : Call) → Goes t (trace_after room t c)
+  call_goes t (Enter bytes a) = then_goes t 0 (vec_items bytes) _ stays
+  call_goes t (Load bytes a) = load_goes t (vec_items bytes)
+  call_goes t (Judge p q a) = stays t
+  call_goes t (Witness p q buffer a) = stays t
+  call_goes t (Partners q buffer a) = stays t
+  call_goes t (Sweep buffer a) = stays t
 
-  -- from the trace after some requests to that after more
-  folded_goes : (t : List Event) (rs : List Request) (i j : ℕ) → i ≤ j → Goes (fold (trace_after room) t (take i rs)) (fold (trace_after room) t (take j rs))
+  -- from the trace after some calls to that after more
+  folded_goes : (t : List Event) (rs : List Call) (i j : ℕ) → i ≤ j → Goes (fold (trace_after room) t (take i rs)) (fold (trace_after room) t (take j rs))
   folded_goes t rs zero zero h = stays t
   folded_goes t [] zero (suc j) h = stays t
-  folded_goes t (r ∷ rs) zero (suc j) h = goes_on (request_goes t r) (folded_goes (trace_after room t r) rs zero j (omega arith))
+  folded_goes t (r ∷ rs) zero (suc j) h = goes_on (call_goes t r) (folded_goes (trace_after room t r) rs zero j (omega arith))
   folded_goes t rs (suc i) zero h = absurd (omega arith)
   folded_goes t [] (suc i) (suc j) h = stays t
   folded_goes t (r ∷ rs) (suc i) (suc j) h = folded_goes (trace_after room t r) rs i j (omega arith)
 
-  pub so_far_goes : (rs : List Request) (i j : ℕ) → i ≤ j → Goes (so_far room (take i rs)) (so_far room (take j rs))
+  pub so_far_goes : (rs : List Call) (i j : ℕ) → i ≤ j → Goes (so_far room (take i rs)) (so_far room (take j rs))
   so_far_goes rs i j h = folded_goes [] rs i j h
 
-  pub so_far_admitted : (rs : List Request) (i : ℕ) → Admits (so_far room (take i rs))
+  pub so_far_admitted : (rs : List Call) (i : ℕ) → Admits (so_far room (take i rs))
   so_far_admitted rs i = (folded_goes [] rs 0 i (omega arith)).admitted tt

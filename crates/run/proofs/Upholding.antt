@@ -1,8 +1,8 @@
--- The replies of a run, one request after another.
-use Rattle.std.proofs.Common.{◌≡◌, ℕ, zero, suc, ◌+◌, ◌<◌, ◌≤◌, List, [], ◌∷◌, ◌++◌, length, get_or, take, Some, Ok, vec_items, Vec, sym, refl, ap, ◌∙◌, subst, ⊎_elim, arith}
+-- The calls of a run, one after another.
+use Rattle.std.proofs.Common.{◌≡◌, ℕ, zero, suc, ◌+◌, ◌<◌, ◌≤◌, List, [], ◌∷◌, ◌++◌, length, get_or, set, take, drop, Some, Ok, vec_items, Vec, sym, refl, ap, ◌∙◌, subst, ⊎_elim, append_assoc, append-nil, arith, length-append, length-drop, take_all}
 use Rattle.std.specs.List.{slice_get}
 use Rattle.std.specs.declared.alloc.Global.{Global}
-use Rattle.std.proofs.lemmas.List.{length_push}
+use Rattle.std.proofs.lemmas.List.{length_push, drop_more, drop_all, set_at, get_or_at, get_or_default}
 use Rattle.std.proofs.lemmas.Bool.{cases_lt}
 use Rattle.std.proofs.lemmas.List.Sums.{fold_more}
 use Rattle.std.proofs.lemmas.Option.{slice_get_read}
@@ -10,19 +10,17 @@ use Rattle.trace.specs.declared.event.Event.{Event}
 use Rattle.trace.specs.Traces.{Admits}
 use Rattle.answer.specs.declared.verdict.Verdict.{Verdict}
 use Rattle.answer.specs.declared.verdict.Verdict.TheVariants.{Race}
-use Rattle.run.specs.declared.Request.{Request}
-use Rattle.run.specs.declared.Request.TheVariants.{Witness}
-use Rattle.run.specs.declared.Reply.{Reply}
-use Rattle.run.specs.declared.Reply.TheVariants.{Witness as Witnesses}
+use Rattle.run.specs.declared.Call.{Call}
+use Rattle.run.specs.declared.Call.TheVariants.{Witness}
 use Rattle.session.specs.Races.{Shows}
-use Rattle.run.specs.Runs.{trace_after, so_far, Replies, Turn, Upholds}
+use Rattle.run.specs.Runs.{trace_after, so_far, Served, Turn, Upholds}
 use Rattle.run.proofs.Lasting.{same_shown}
 use Rattle.run.proofs.SoFar.{Goes, so_far_goes, so_far_admitted}
 use Rattle.run.proofs.Lasts.{Decided, says_right, same_verdict, witness_answered}
 
--- each reply so far is the one that the trace so far asks for
-abbrev pub Each : ℕ → List Request → List Reply → Type 0
-Each room requests replies = (i : ℕ) (x : Turn requests replies i) → Replies room (so_far room (take i requests)) x.request x.reply
+-- each call so far is answered as the trace so far asks for
+abbrev pub Each : ℕ → List Call → List Call → Type 0
+Each room given back = (i : ℕ) (x : Turn given back i) → Served room (so_far room (take i given)) x.asked x.answered
 
 -- the last of a list
 nth_last : {A : Type 0} (xs : List A) (y z : A) (k : ℕ) → length xs ≤ k → slice_get (xs ++ (y ∷ [])) k ≡ Some z → (k ≡ length xs) × (y ≡ z)
@@ -36,78 +34,120 @@ nth_before [] ys k h = absurd (omega arith)
 nth_before (x ∷ xs) ys zero h = refl
 nth_before (x ∷ xs) ys (suc k) h = nth_before xs ys k (omega arith)
 
-module _ (room : ℕ) (requests : List Request) where
-  -- one reply more
-  pub each_more : (replies : List Reply) (i : ℕ) (request : Request) (reply : Reply) → length replies ≡ i → slice_get requests i ≡ Some request
-      → Replies room (so_far room (take i requests)) request reply → Each room requests replies → Each room requests (replies ++ (reply ∷ []))
-  each_more replies i request reply many is right each k x = ⊎_elim old new (cases_lt k (length replies))
+-- an element in the place of the first one behind others
+set_next : {A : Type 0} (xs ys : List A) (i : ℕ) (y d : A) → length xs ≡ i → i < length ys
+    → set (xs ++ drop i ys) i y ≡ (xs ++ (y ∷ [])) ++ drop (i + 1) ys
+set_next xs ys i y d many inside =
+    rw (drop_more ys i d inside) (set_at xs (get_or ys i d) (drop (i + 1) ys) y i many) ∙ sym (append_assoc xs (y ∷ []) (drop (i + 1) ys))
+
+module _ (room : ℕ) (given : List Call) where
+  -- one call more
+  each_more : (back : List Call) (i : ℕ) (asked answered : Call) → length back ≡ i → slice_get given i ≡ Some asked
+      → Served room (so_far room (take i given)) asked answered → Each room given back → Each room given (back ++ (answered ∷ []))
+  each_more back i asked answered many is right each k x = ⊎_elim old new (cases_lt k (length back))
     where
-      old : k < length replies → Replies room (so_far room (take k requests)) x.request x.reply
-      old h = each k (record { request = x.request; reply = x.reply; request_is = x.request_is; reply_is = sym (nth_before replies (reply ∷ []) k h) ∙ x.reply_is })
+      old : k < length back → Served room (so_far room (take k given)) x.asked x.answered
+      old h = each k (record { asked = x.asked; answered = x.answered; asked_is = x.asked_is; answered_is = sym (nth_before back (answered ∷ []) k h) ∙ x.answered_is })
 
-      new : length replies ≤ k → Replies room (so_far room (take k requests)) x.request x.reply
+      new : length back ≤ k → Served room (so_far room (take k given)) x.asked x.answered
       new h =
-          let l = nth_last replies reply x.reply k h x.reply_is in
+          let l = nth_last back answered x.answered k h x.answered_is in
           let k_is : k ≡ i = l.0 ∙ many in
-          let at_i = subst (λ (n : ℕ). slice_get requests n ≡ Some x.request) k_is x.request_is in
-          let r_is : request ≡ x.request = cc in
-          rw k_is (subst (λ (a : Request). Replies room (so_far room (take i requests)) a x.reply) r_is
-          (subst (λ (b : Reply). Replies room (so_far room (take i requests)) request b) l.1 right))
+          let at_i = subst (λ (n : ℕ). slice_get given n ≡ Some x.asked) k_is x.asked_is in
+          let a_is : asked ≡ x.asked = cc in
+          rw k_is (subst (λ (a : Call). Served room (so_far room (take i given)) a x.answered) a_is
+          (subst (λ (b : Call). Served room (so_far room (take i given)) asked b) l.1 right))
 
-  -- the trace so far with one request more
-  pub so_far_more : (i : ℕ) (request : Request) → i < length requests → request ≡ get_or requests i request
-      → trace_after room (so_far room (take i requests)) request ≡ so_far room (take (i + 1) requests)
-  so_far_more i request inside is = rw (fold_more (trace_after room) [] requests i request inside, ← is) refl
+  -- the trace so far with one call more
+  so_far_more : (i : ℕ) (call : Call) → i < length given → call ≡ get_or given i call
+      → trace_after room (so_far room (take i given)) call ≡ so_far room (take (i + 1) given)
+  so_far_more i call inside is = rw (fold_more (trace_after room) [] given i call inside, ← is) refl
 
-  -- one turn of a run
-  pub turn_more : {same : ℕ} {i : ℕ} {request : Request} {reply : Reply} {t u : List Event} {replies next : List Reply} → same ≡ room
-      → t ≡ so_far room (take i requests) → length replies ≡ i → i < length requests → request ≡ get_or requests i request → Replies same t request reply
-      → u ≡ trace_after same t request → next ≡ replies ++ (reply ∷ []) → Each room requests replies
-      → (u ≡ so_far room (take (i + 1) requests)) × (length next ≡ i + 1) × Each room requests next
-  turn_more {i = i} {request} {reply} {replies = replies} room_is t_is many inside there right u_is next_is each =
-      let r = rw (room_is, t_is) at right in
-      let v = rw (room_is, t_is) at u_is in (
-        v ∙ so_far_more i request inside there,
-        ap length next_is ∙ length_push replies reply ∙ ap (λ (n : ℕ). n + 1) many,
-        subst (Each room requests) (sym next_is) (each_more replies i request reply many (slice_get_read requests (length requests) i request refl inside there) r each),
-      )
+  -- the first i calls are answered in place, and the others are as they were given
+  pub record Answering (i : ℕ) (now : List Call) : Type 0 where
+    pub back : List Call
+    pub many : length back ≡ i
+    pub now_is : now ≡ back ++ drop i given
+    pub each : Each room given back
+    pub within : i ≤ length given
 
-  module _ (replies : List Reply) (many : length replies ≡ length requests) (each : Each room requests replies) where
-    -- from an earlier request to a later one
+  pub answering_none : Answering 0 given
+  answering_none = record { back = []; many = refl; now_is = refl; each = λ i x. let a = x.answered_is in absurd (grind arith); within = omega arith }
+
+  module _ {i : ℕ} {now : List Call} (a : Answering i now) where
+    -- there are as many
+    pub answering_long : length now ≡ length given
+    answering_long = let m = a.many in let w = a.within in omega (arith, ap length a.now_is, length-append a.back (drop i given), length-drop i given)
+
+    module _ (inside : i < length given) where
+      -- the next one is as it was given
+      next_is : (d : Call) → get_or now i d ≡ get_or given i d
+      next_is d = rw (a.now_is, drop_more given i d inside) (get_or_at a.back (get_or given i d) (drop (i + 1) given) d i a.many)
+
+      -- one turn of a run
+      pub turn_more : {asked answered : Call} {same : ℕ} {t u : List Event} {next : List Call} (d : Call) → same ≡ room → t ≡ so_far room (take i given)
+          → asked ≡ get_or now i d → Served same t asked answered → u ≡ trace_after same t asked → next ≡ set now i answered
+          → (u ≡ so_far room (take (i + 1) given)) × Answering (i + 1) next
+      turn_more {asked} {answered} d room_is t_is there right u_is next_is' =
+          let r = rw (room_is, t_is) at right in
+          let v = rw (room_is, t_is) at u_is in
+          let is : asked ≡ get_or given i asked = there ∙ next_is d ∙ get_or_default given i d asked inside in (
+            v ∙ so_far_more i asked inside is,
+            record {
+              back = a.back ++ (answered ∷ []);
+              many = length_push a.back answered ∙ ap (λ (n : ℕ). n + 1) a.many;
+              now_is = next_is' ∙ rw a.now_is (set_next a.back given i answered answered a.many inside);
+              each = each_more a.back i asked answered a.many (slice_get_read given (length given) i asked refl inside is) r a.each;
+              within = omega arith;
+            },
+          )
+
+  module _ (back : List Call) (many : length back ≡ length given) (each : Each room given back) where
+    -- from an earlier call to a later one
     module _ (i j : ℕ) (h : i ≤ j) where
-      goes : Goes (so_far room (take i requests)) (so_far room (take j requests))
-      goes = so_far_goes room requests i j h
+      goes : Goes (so_far room (take i given)) (so_far room (take j given))
+      goes = so_far_goes room given i j h
 
-      later : Admits (so_far room (take i requests) ++ goes.more)
-      later = subst Admits goes.is (so_far_admitted room requests j)
+      later : Admits (so_far room (take i given) ++ goes.more)
+      later = subst Admits goes.is (so_far_admitted room given j)
 
-      verdicts : (p q : ℕ) (v w : Verdict) → Decided (so_far room (take i requests)) p q v → Decided (so_far room (take j requests)) p q w → v ≡ w
+      verdicts : (p q : ℕ) (v w : Verdict) → Decided (so_far room (take i given)) p q v → Decided (so_far room (take j given)) p q w → v ≡ w
       verdicts p q v w d e = same_verdict _ goes.more p q v w later d (subst (λ (t : List Event). Decided t p q w) goes.is e)
 
-      witnesses : (p q : ℕ) (ws vs : List ℕ) → p < q → q < length (so_far room (take i requests)) → Shows (so_far room (take i requests)) p q ws
-          → Shows (so_far room (take j requests)) p q vs → ws ≡ vs
+      witnesses : (p q : ℕ) (ws vs : List ℕ) → p < q → q < length (so_far room (take i given)) → Shows (so_far room (take i given)) p q ws
+          → Shows (so_far room (take j given)) p q vs → ws ≡ vs
       witnesses p q ws vs below inside s r =
           same_shown _ goes.more p q later below inside ws vs s (subst (λ (t : List Event). Shows t p q vs) goes.is r)
 
     -- an answered Witness
-    shown_at : (i p q m : ℕ) (b after : Vec ℕ Global) (x : Turn requests replies i) → x.request ≡ Witness p q b → x.reply ≡ Witnesses (Ok m) after
-        → Decided (so_far room (take i requests)) p q Race × Shows (so_far room (take i requests)) p q (take m (vec_items after))
-    shown_at i p q m b after x xr xa =
-        let t = so_far room (take i requests) in
-        witness_answered room t p q m b after
-        (subst (λ (z : Reply). Replies room t (Witness p q b) z) xa (subst (λ (z : Request). Replies room t z x.reply) xr (each i x)))
+    shown_at : (i p q m : ℕ) (after : Vec ℕ Global) (x : Turn given back i) → x.answered ≡ Witness p q after (Some (Ok m))
+        → Decided (so_far room (take i given)) p q Race × Shows (so_far room (take i given)) p q (take m (vec_items after))
+    shown_at i p q m after x is =
+        let t = so_far room (take i given) in
+        witness_answered room t p q m x.asked after (subst (λ (z : Call). Served room t x.asked z) is (each i x))
 
-    pub upholds : Upholds room requests replies
-    upholds = record {
+    pub upheld : Upholds room given back
+    upheld = record {
       many = many;
       each = each;
       lasting = λ i j p q v w x y s r.
-          let d = says_right room _ p q x.request x.reply v (each i x) s in
-          let e = says_right room _ p q y.request y.reply w (each j y) r in
+          let d = says_right room _ p q x.asked x.answered v (each i x) s in
+          let e = says_right room _ p q y.asked y.answered w (each j y) r in
           ⊎_elim (λ h. verdicts i j (omega arith) p q v w d e) (λ h. sym (verdicts j i h p q w v e d)) (cases_lt i j);
-      same_witness = λ i j p q m n b c after again x y xr xa yr ya.
-          let d = shown_at i p q m b after x xr xa in
-          let e = shown_at j p q n c again y yr ya in
+      same_witness = λ i j p q m n after again x y xa ya.
+          let d = shown_at i p q m after x xa in
+          let e = shown_at j p q n again y ya in
           ⊎_elim (λ h. witnesses i j (omega arith) p q _ _ d.0.below d.0.inside d.1 e.1)
           (λ h. sym (witnesses j i h p q _ _ e.0.below e.0.inside e.1 d.1)) (cases_lt i j);
     }
+
+  -- where all calls are answered, the promise is kept
+  pub upholds : {i : ℕ} {now : List Call} → Answering i now → length given ≤ i → Upholds room given now
+  upholds {i} a all =
+      let many = a.many in
+      let within = a.within in
+      rw (a.now_is, drop_all i given all, append-nil a.back) (upheld a.back (omega arith) a.each)
+
+  -- and the trace is that of all
+  pub so_far_all : (i : ℕ) → length given ≤ i → so_far room (take i given) ≡ so_far room given
+  so_far_all i all = ap (so_far room) (take_all i given all)

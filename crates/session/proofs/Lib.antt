@@ -1,5 +1,6 @@
 -- The lemmas, each file after those that it uses.
 pub mod Entries
+pub mod Moved
 pub mod Loads
 pub mod Taking
 pub mod Loading

@@ -1,5 +1,5 @@
 -- What becomes of records that are offered one after another.
-use Rattle.std.proofs.Common.{◌≡◌, ℕ, suc, ◌+◌, ◌-◌, ◌*◌, ◌<◌, ◌≤◌, min, List, [], ◌∷◌, ◌++◌, length, take, drop, Ok, Err, Result, sym, refl, ap, ◌∙◌, subst, ⊎_elim, append_assoc, arith, length-append, length-drop, take_all, take-take, take-add}
+use Rattle.std.proofs.Common.{◌≡◌, ℕ, suc, ◌+◌, ◌-◌, ◌*◌, ◌<◌, ◌≤◌, min, List, [], ◌∷◌, ◌++◌, length, take, drop, Ok, Err, Result, sym, refl, ap, ◌∙◌, subst, ⊎_elim, append_assoc, append-nil, arith, length-append, length-drop, take_all, take-take, take-add}
 use Rattle.std.specs.List.{flat_map}
 use Rattle.std.specs.Int.{div_ceil}
 use Rattle.std.proofs.Math.Seq.{take-append_seam, drop-append_seam}
@@ -10,6 +10,8 @@ use Rattle.trace.specs.Records.{record_of}
 use Rattle.trace.specs.Traces.{Admits}
 use Rattle.answer.specs.declared.fault.EntryRefusal.{EntryRefusal}
 use Rattle.answer.specs.Faults.{Refusal, refusal}
+use Rattle.reel.specs.Lent.{recorded_in}
+use Rattle.reel.proofs.Lent.{flat_map-append, lent_same, recorded_on}
 use Rattle.session.specs.States.{State}
 use Rattle.session.specs.Entries.{offered, offer, records, record_count, enter_from, enter_all, Takes}
 
@@ -47,10 +49,6 @@ next_piece bytes rest r behind i size rest_is size_is parts many some =
     let m : 8 * i + 8 ≡ 8 * (i + 1) = omega arith in
     (omega arith, k.0 ∙ ap (take 8) rest_is, k.1 ∙ ap (drop 8) rest_is ∙ drop-drop 8 (8 * i) bytes ∙ ap (λ (j : ℕ). drop j bytes) m)
 
-joined_append : {A X : Type 0} (f : X → List A) (xs ys : List X) → flat_map f (xs ++ ys) ≡ flat_map f xs ++ flat_map f ys
-joined_append f [] ys = refl
-joined_append f (x ∷ xs) ys = ap (λ (zs : List _). f x ++ zs) (joined_append f xs ys) ∙ sym (append_assoc (f x) (flat_map f xs) (flat_map f ys))
-
 module _ (old : State) (bytes : List ℕ) where
   -- the first i records are taken: the session is as said, and the others are still to come
   pub record Loading (i : ℕ) (now : State) : Type 0 where
@@ -62,7 +60,26 @@ module _ (old : State) (bytes : List ℕ) where
     pub as_recorded : flat_map record_of new ≡ take (8 * i) bytes
     pub admitted : Admits old.trace → Admits now.trace
     pub room : now.room ≡ old.room
+    pub lent : now.lent ≡ recorded_in old.lent old.trace now.trace
+    pub loan : now.loan ≡ old.loan
     pub within : i ≤ record_count bytes
+
+  -- none is taken yet
+  pub loading_none : Loading 0 old
+  loading_none =
+      let all : record_count bytes - 0 ≡ record_count bytes = omega arith in
+      record {
+        left = rw all refl;
+        new = [];
+        many = refl;
+        added = sym (append-nil old.trace);
+        as_recorded = refl;
+        admitted = λ a. a;
+        room = refl;
+        lent = lent_same old.lent old.trace;
+        loan = refl;
+        within = omega arith;
+      }
 
   module _ {i : ℕ} {now : State} (l : Loading i now) (inside : i < record_count bytes) where
     next_records : records (record_count bytes - i) (drop (8 * i) bytes) ≡ piece bytes i ∷ records (record_count bytes - (i + 1)) (drop (8 * (i + 1)) bytes)
@@ -101,10 +118,12 @@ module _ (old : State) (bytes : List ℕ) where
                 new = l.new ++ k.recorded.new;
                 many = let m = l.many in omega (arith, length-append l.new k.recorded.new);
                 added = k.recorded.added ∙ ap (λ (es : List Event). es ++ k.recorded.new) l.added ∙ append_assoc old.trace l.new k.recorded.new;
-                as_recorded = rw (size, take-add (8 * i) 8 bytes, joined_append record_of l.new k.recorded.new, l.as_recorded, k.recorded.as_recorded, one)
+                as_recorded = rw (size, take-add (8 * i) 8 bytes, flat_map-append record_of l.new k.recorded.new, l.as_recorded, k.recorded.as_recorded, one)
                     (ap (λ (bs : List ℕ). take (8 * i) bytes ++ bs) (take-take 8 8 (drop (8 * i) bytes) (omega arith)));
                 admitted = λ a. k.admitted (l.admitted a);
                 room = k.room ∙ l.room;
+                lent = recorded_on old.lent old.trace l.new k.recorded.new l.added k.recorded.added l.lent k.lent;
+                loan = k.loan ∙ l.loan;
                 within = omega arith;
               }
           by (Err f) q = let a = rw q at k.answer in absurd (grind arith)
@@ -131,6 +150,8 @@ module _ (old : State) (bytes : List ℕ) where
                 recorded = record { new = l.new; added = v_is ∙ l.added; as_recorded = rw l.many l.as_recorded };
                 admitted = λ a. k.admitted (l.admitted a);
                 room = k.room ∙ l.room;
+                lent = recorded_on old.lent old.trace l.new k.recorded.new l.added k.recorded.added l.lent k.lent;
+                loan = k.loan ∙ l.loan;
               }
 
   -- all records are taken where no byte is left
@@ -148,4 +169,6 @@ module _ (old : State) (bytes : List ℕ) where
         recorded = record { new = l.new; added = l.added; as_recorded = rw l.many l.as_recorded };
         admitted = l.admitted;
         room = l.room;
+        lent = l.lent;
+        loan = l.loan;
       }

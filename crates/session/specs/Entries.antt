@@ -9,6 +9,7 @@ use Rattle.trace.specs.Records.{meaning, record_of}
 use Rattle.trace.specs.Traces.{Admits, holders_after, trace_refusal}
 use Rattle.trace.specs.Locks.{Tells}
 use Rattle.reel.specs.Reels.{reel_refusal}
+use Rattle.reel.specs.Lent.{recorded_in}
 use Rattle.answer.specs.declared.fault.Layer.{Layer}
 use Rattle.answer.specs.declared.fault.Layer.TheVariants.{Record, Trace, Reel}
 use Rattle.answer.specs.declared.fault.EntryRefusal.{EntryRefusal}
@@ -83,10 +84,12 @@ pub record Stands (table : LockTable) (t : List Event) : Type 0 where
   pub tells : Tells table t
 
 -- a call that takes records from these bytes answers so, and then the session has these events, which the trace check admits as it admits those
--- of every session, and as much room as before
+-- of every session, and as much room as before; of the lent bytes the records of the events that came are written, each in its place
 pub record Takes {A : Type 0} (outcome : Outcome A) (old : State) (bytes : List ℕ) (r : Result A EntryRefusal) (new : State) : Type 0 where
   pub answer : told refusal r ≡ outcome.answer
   pub events : new.trace ≡ outcome.events
   pub recorded : Recorded old.trace bytes new.trace
   pub admitted : Admits old.trace → Admits new.trace
   pub room : new.room ≡ old.room
+  pub lent : new.lent ≡ recorded_in old.lent old.trace new.trace
+  pub loan : new.loan ≡ old.loan

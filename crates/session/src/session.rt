@@ -6,11 +6,12 @@ ghost use Rattle.trace.specs.Traces.{Admits};
 ghost use Rattle.answer.specs.Faults.{at_index};
 ghost use Rattle.reel.specs.Passing.{left_of};
 ghost use Rattle.session.specs.States.{State};
-ghost use Rattle.session.specs.Entries.{Stands, Takes, offer, enter, enter_all, load};
+ghost use Rattle.session.specs.Entries.{Stands, Takes, enter, load};
 
+use crate::records::enter_records;
 use answer::fault::{EntryFault, EntryRefusal};
-use reel::Reel;
 use reel::events::Events;
+use reel::{MOST_EVENTS, Reel};
 use std::marker::Model;
 use trace::event::Event;
 use trace::locks::LockTable;
@@ -27,20 +28,23 @@ pub struct Session<R: Reel> {
     locks: LockTable,
 }
 
-/// Of a session its callers see the trace so far, which the trace check admits, and how many events it can have.
+/// Of a session its callers see the trace so far, which the trace check admits, how many events it can have, and the bytes that are lent to
+/// its reel.
 impl<R: Reel> Model for Session<R> {
     ghost Value = { State };
 
-    ghost view = { λ s. record { trace = R.events s.reel; room = R.room s.reel } };
+    ghost view = { λ s. record { trace = R.events s.reel; room = R.room s.reel; lent = R.lent s.reel; loan = R.loan s.reel } };
 
     ghost invariant = { λ s. Stands s.locks (R.events s.reel) };
 }
 
 impl<R: Reel> Session<R> {
-    /// Opens a session over the reel, which is wiped.
+    /// Opens a session over the reel, which is wiped. No lent byte is written.
     pub fn open(mut reel: R) -> Session<R>
         ensures trace { result.trace ≡ [] }
         ensures room { result.room ≡ R.Reel.room reel }
+        ensures lent { result.lent ≡ R.Reel.lent reel }
+        ensures loan { result.loan ≡ R.Reel.loan reel }
     {
         reel.wipe();
         Session {
@@ -49,9 +53,20 @@ impl<R: Reel> Session<R> {
         }
     }
 
+    /// Hands the reel back, with the events and the lent bytes that the session has.
+    pub fn into_reel(self) -> R
+        ensures trace { R.Reel.events result ≡ self.trace }
+        ensures room { R.Reel.room result ≡ self.room }
+        ensures lent { R.Reel.lent result ≡ self.lent }
+        ensures loan { R.Reel.loan result ≡ self.loan }
+    {
+        let Session { reel, locks: _ } = self;
+        reel
+    }
+
     /// Takes the event of a record, if no check refuses it.
     fn take_record(&mut self, record: &[u8]) -> Result<(), EntryFault>
-        ensures { let t = self.old.trace in ((i : ℕ) → Takes (offer self.old.room t i «record».now) self.old «record».now (told (at_index i) result) self.new) }
+        ensures { let t = self.old.trace in Takes (enter self.old.room t «record».now) self.old «record».now (told (at_index 0) result) self.new }
     {
         let event = decode(record)?;
         let mut locks = self.locks;
@@ -61,29 +76,12 @@ impl<R: Reel> Session<R> {
         Ok(())
     }
 
-    /// Takes record `index` of a call, if no check refuses it.
-    fn offer(&mut self, index: usize, record: &[u8]) -> Result<(), EntryRefusal>
-        ensures { let t = self.old.trace in Takes (offer self.old.room t index «record».now) self.old «record».now result self.new }
-    {
-        self.take_record(record)
-            .map_err(|fault| EntryRefusal { fault, index })
-    }
-
     /// Enter: takes one record.
     pub fn enter(&mut self, record: &[u8]) -> Result<(), EntryRefusal>
         ensures { let t = self.old.trace in Takes (enter self.old.room t «record».now) self.old «record».now result self.new }
     {
-        self.offer(0, record)
-    }
-
-    /// Takes the records of some bytes one after another, up to the first that is refused; answers how many it took.
-    fn enter_all(&mut self, bytes: &[u8]) -> Result<usize, EntryRefusal>
-        ensures { let t = self.old.trace in Takes (enter_all self.old.room t bytes.now) self.old bytes.now result self.new }
-    {
-        for (index, record) in bytes.chunks(RECORD).enumerate() {
-            self.offer(index, record)?;
-        }
-        Ok(bytes.len().div_ceil(RECORD))
+        self.take_record(record)
+            .map_err(|fault| EntryRefusal { fault, index: 0 })
     }
 
     /// Load: takes the records of a dump, one after another, up to the first that is refused; answers how many it took.
@@ -95,7 +93,7 @@ impl<R: Reel> Session<R> {
             let index = dump.len() / RECORD;
             return Err(EntryRefusal { fault, index });
         }
-        self.enter_all(dump)
+        enter_records(self, dump)
     }
 
     /// How many events the session has.
@@ -123,7 +121,7 @@ impl<R: Reel> Session<R> {
     pub fn iter(&self) -> Events<'_, R>
         ensures events { left_of R.Reel.events result ≡ self.now.trace }
         ensures admitted { Admits self.now.trace }
-        ensures few { length self.now.trace ≤ 65535 }
+        ensures few { length self.now.trace ≤ MOST_EVENTS }
     {
         self.reel.iter()
     }

@@ -17,7 +17,7 @@ In k c = c k ≡ true
 abbrev pub Inside : Positions → Positions → Type 0
 Inside c d = (k : ℕ) → In k c → In k d
 
--- a cut holds positions of the trace, and of each thread its first events up to some point
+-- a cut has positions of the trace, and with each of them all earlier ones of its thread
 pub record Cut (t : List Event) (c : Positions) : Type 0 where
   pub in_trace : (k : ℕ) → In k c → k < length t
   pub first_events : (d k : ℕ) → EarlierInThread t d k → In k c → In d c
@@ -26,15 +26,15 @@ pub record Cut (t : List Event) (c : Positions) : Type 0 where
 abbrev pub Wants : Type 1
 Wants = List Event → Positions → ℕ → Type 0
 
--- the laws of a rule, in traces that the trace check admits: a wanted event stands before some event of the cut, a greater cut wants no less, and a
--- cut wants the same in a longer trace that the trace check admits
+-- the laws of a rule, in traces that the trace check admits: what a cut wants comes earlier than something that it has, a greater cut wants no
+-- less, and a cut wants the same in a longer trace that the trace check admits
 pub record Laws (wants : Wants) : Type 0 where
   pub earlier : (t : List Event) (c : Positions) (w : ℕ) → Admits t → Cut t c → wants t c w → (k : ℕ) × In k c × (w < k)
   pub more : (t : List Event) (c d : Positions) (w : ℕ) → Admits t → Cut t c → Cut t d → Inside c d → wants t c w → wants t d w
   pub lasting : (t u : List Event) (c : Positions) (w : ℕ) → Admits (t ++ u) → Cut t c
       → (wants (t ++ u) c w → wants t c w) × (wants t c w → wants (t ++ u) c w)
 
--- a cut is closed if it holds all that it wants
+-- a cut is closed if nothing that it wants is missing from it
 abbrev pub Closed : Wants → List Event → Positions → Type 0
 Closed wants t c = (w : ℕ) → wants t c w → In w c
 

@@ -63,7 +63,7 @@ abbrev pub from_event : (Event → Option ℕ) → Option Event → Option ℕ
 from_event find None = None
 from_event find (Some e) = find e
 
--- the latest earlier event of the thread of k
+-- the last position before k where the thread of k has an event
 abbrev pub previous : List Event → ℕ → Option ℕ
 previous t k = from_event (λ e. latest (of_thread e.thread) t k) (slice_get t k)
 
@@ -77,11 +77,11 @@ abbrev pub previous_events : List Event → List ℕ → List ℕ
 previous_events t [] = []
 previous_events t (e ∷ es) = after_some (previous t e) (previous_events t es)
 
--- the latest earlier write to the variable of k, if k is a read
+-- the last position before k where the variable of k is written, if k is a read
 abbrev pub last_write : List Event → ℕ → Option ℕ
 last_write t k = from_event (λ e. cond (reading e.kind) (latest (writes e.subject) t k) None) (slice_get t k)
 
--- the first later release of the lock of an acquire a by the thread of a; what is found for another event means nothing
+-- where the thread of an acquire a next releases the lock of a; what is found for another event means nothing
 abbrev pub release_of : List Event → ℕ → Option ℕ
 release_of t a = from_event (λ e. earliest (releases e.subject e.thread) t (suc a) (length t)) (slice_get t a)
 

@@ -42,18 +42,18 @@ pub record Correct (t : List Event) (σ : List ℕ) : Type 0 where
   pub reads : (xs ys : List ℕ) (k : ℕ) (e : Event) → σ ≡ xs ++ (k ∷ ys) → At t k e → e.kind ≡ Read → (w : ℕ)
       → (LatestWrite t xs e.subject w → LastWrite t k w) × (LastWrite t k w → LatestWrite t xs e.subject w)
 
--- the acquires of each lock stand in the order of the trace
+-- each lock is acquired in the order in which the trace acquires it
 pub record SyncPreserving (t : List Event) (σ : List ℕ) : Type 0 where
   pub in_order : (xs ys : List ℕ) (a b : ℕ) (e f : Event) → σ ≡ xs ++ (b ∷ ys) → Memᴰ a xs → At t a e → At t b f → e.kind ≡ Acquire
       → f.kind ≡ Acquire → e.subject ≡ f.subject → a < b
 
--- k is enabled after σ: not in σ, with all earlier events of its thread in σ. A position past the trace is enabled after every list of positions of
+-- k is enabled after σ: σ lacks it, and has what its thread does before it. A position past the trace is enabled after every list of positions of
 -- the trace, so the calls of a session ask about positions of the trace alone
 pub record Enabled (t : List Event) (σ : List ℕ) (k : ℕ) : Type 0 where
   pub outside : Memᴰ k σ → ⊥
   pub ready : (d : ℕ) → EarlierInThread t d k → Memᴰ d σ
 
--- a sync-preserving correct reordering that leaves each of the events es enabled
+-- σ is correct and sync-preserving, and each of the events es is enabled after it
 pub record Leaves (t : List Event) (es : List ℕ) (σ : List ℕ) : Type 0 where
   pub correct : Correct t σ
   pub sync : SyncPreserving t σ

@@ -1,5 +1,4 @@
--- Traces, which of them the trace check admits, and how their events relate. A trace is a list of events; the position of an event is the
--- number of events before it.
+-- Traces, which of them the trace check admits, and how their events relate. A trace is a list of events; positions in it count from 0.
 use Rattle.std.specs.Prelude.{◌≡◌, ℕ, ◌<◌, cond, List, [], ◌∷◌, Some, None, Option, ◌==◌, ◌≢◌}
 use Rattle.std.specs.List.{slice_get}
 use Rattle.trace.specs.declared.event.Event.{Event}
@@ -42,8 +41,8 @@ after h (e ∷ es) = after (after_event h e) es
 abbrev pub holders_after : List Event → Holders
 holders_after t = after all_free t
 
--- why the trace check turns away an event of a kind, by a thread, on a lock with a given holder: 5 where a lock is acquired that is held,
--- 6 where a lock is released by a thread that does not hold it
+-- why the trace check turns away an event of a kind, by a thread, on a lock with a given holder: 5 for an acquire if there is a holder,
+-- 6 for a release if the holder is another thread or none
 abbrev pub refusal_by : Kind → ℕ → Option ℕ → Option ℕ
 refusal_by Read thread holder = None
 refusal_by Write thread holder = None
@@ -78,12 +77,12 @@ pub record EarlierInThread (t : List Event) (d k : ℕ) : Type 0 where
   pub second_is : At t k second
   pub same_thread : first.thread ≡ second.thread
 
--- d is the previous event of k: the latest earlier event of its thread
+-- d is the previous event of k: it comes earlier in the same thread, with none of that thread between
 pub record Previous (t : List Event) (k d : ℕ) : Type 0 where
   pub earlier : EarlierInThread t d k
   pub none_between : (m : ℕ) → d < m → EarlierInThread t m k → ⊥
 
--- k is a read, and w its last write: the latest earlier write to its variable
+-- k is a read, and w its last write: an earlier write to the same variable, with none between
 pub record LastWrite (t : List Event) (k w : ℕ) : Type 0 where
   pub before : w < k
   pub read : Event
@@ -95,7 +94,7 @@ pub record LastWrite (t : List Event) (k w : ℕ) : Type 0 where
   pub same_variable : write.subject ≡ read.subject
   pub none_between : (m : ℕ) (e : Event) → w < m → m < k → At t m e → e.kind ≡ Write → e.subject ≢ read.subject
 
--- r is the first release of the lock of a by the thread of a, after a
+-- a is an acquire, and r its release: the thread of a lets go of the lock there, and nowhere between
 pub record ReleaseOf (t : List Event) (a r : ℕ) : Type 0 where
   pub after : a < r
   pub acquire : Event

@@ -1,5 +1,8 @@
 //! Who holds each lock, and the trace check: only a free lock is acquired, and only its holder releases it.
 ghost use Rattle.std.specs.Prelude.{◌≡◌, length};
+ghost use Rattle.trace.specs.declared.limits.TheConstants.{LOCKS};
+
+use crate::limits::LOCKS;
 
 mod methods;
 
@@ -15,7 +18,7 @@ pub enum TraceFault {
 /// The thread that holds each lock, if one does, by the number of the lock.
 #[derive(Clone, Copy)]
 pub struct LockTable {
-    // an array, since there is no heap
-    holders: [Option<u8>; 64],
-    ghost whole: { length holders ≡ 64 },
+    // an array, since a board has no heap
+    holders: [Option<u8>; LOCKS as usize],
+    ghost whole: { length holders ≡ LOCKS },
 }

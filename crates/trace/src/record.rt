@@ -106,7 +106,7 @@ pub fn decode(record: &[u8]) -> Result<Event, RecordFault>
 }
 
 /// The record of an event.
-pub fn encode(event: &Event) -> [u8; 8]
+pub fn encode(event: &Event) -> [u8; RECORD]
     ensures bytes { result ≡ record_of event.now }
     ensures back { meaning result ≡ Ok event.now }
 {

@@ -1,8 +1,7 @@
-//! Records and the lock table on a few examples.
+//! Records on a few examples.
 use crate::fault::Fault;
 use crate::kind::Kind;
-use crate::locks::LockTable;
-use crate::record::{decode, encode, event_of};
+use crate::record::{decode, encode};
 use std::test::Fail;
 
 /// The number of the refusal of some bytes.
@@ -27,21 +26,5 @@ fn records(rt: HostRuntime) -> Result<(), Fail> {
     assert_eq!(rt; refusal(&[1, 16, 0xff, 0xff, 0, 0, 0, 0]), Some(3));
     assert_eq!(rt; refusal(&[3, 15, 64, 0, 0, 0, 0, 0]), Some(4));
     assert_eq!(rt; refusal(&[2, 15, 0, 4, 0, 0, 0, 0]), Some(4));
-    Ok(())
-}
-
-#[test]
-fn lock_table(rt: HostRuntime) -> Result<(), Fail> {
-    let mut table = LockTable::new();
-    let acquire = event_of(Kind::Acquire, 0, 63, 0)?;
-    let other = event_of(Kind::Release, 1, 63, 0)?;
-    let release = event_of(Kind::Release, 0, 63, 0)?;
-    assert!(rt; table.turn(&release).is_err());
-    table.turn(&acquire)?;
-    assert!(rt; table.turn(&acquire).is_err());
-    assert!(rt; table.turn(&other).is_err());
-    table.turn(&event_of(Kind::Write, 9, 1023, 0)?)?;
-    table.turn(&release)?;
-    assert!(rt; table.turn(&release).is_err());
     Ok(())
 }

@@ -4,7 +4,7 @@ ghost use Rattle.std.proofs.Common.{lit≤};
 ghost use Rattle.reel.specs.Boards.{board_room, kept, kept_few};
 
 use crate::board::BoardReel;
-use crate::board::table::Table;
+use crate::board::table::{ENTRIES, Table};
 use crate::{Reel, ReelFault};
 use trace::event::Event;
 
@@ -24,6 +24,10 @@ impl Reel for BoardReel {
 
     ghost room = { λ _. board_room };
 
+    ghost lent = { λ _. [] };
+
+    ghost loan = { λ _. [] };
+
     ghost few = { kept_few };
 
     ghost small = { λ _. lit≤ tt };
@@ -33,7 +37,7 @@ impl Reel for BoardReel {
     }
 
     fn capacity(&self) -> usize {
-        1024
+        ENTRIES
     }
 
     fn event(&self, k: usize) -> Option<Event> {
@@ -44,7 +48,7 @@ impl Reel for BoardReel {
     }
 
     fn take(&mut self, e: Event) -> Result<(), ReelFault> {
-        if self.table.count >= 1024 {
+        if self.table.count >= ENTRIES {
             return Err(ReelFault::Full);
         }
         self.table.put(e);

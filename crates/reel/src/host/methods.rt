@@ -1,16 +1,14 @@
 //! What a reel in lent bytes does. Of the bytes, only those of a record that is taken are written.
-ghost use Rattle.std.specs.Prelude.{◌≡◌, ◌*◌, [], length, is_ok, if◌then◌else◌};
-ghost use Rattle.trace.specs.Records.{record_of};
+ghost use Rattle.std.specs.Prelude.{◌≡◌, [], ◌∷◌, length};
 ghost use Rattle.reel.specs.Reels.{Taken};
-ghost use Rattle.reel.specs.Stored.{replaced, room_in, room_small};
+ghost use Rattle.reel.specs.Stored.{room_in, room_small};
+ghost use Rattle.reel.specs.Lent.{recorded_in};
 ghost use Rattle.reel.specs.Hosts.{held, held_few};
 
 use crate::host::HostReel;
-use crate::{Reel, ReelFault};
+use crate::{MOST_EVENTS, Reel, ReelFault};
 use trace::event::Event;
-use trace::record::{decode, encode};
-
-// `bytes` and `lender` stand in three contracts: they compare what is lent before and after a call, which no invariant of the type can
+use trace::record::{RECORD, decode, encode};
 
 impl<'a> HostReel<'a> {
     /// An empty reel over the bytes.
@@ -18,9 +16,18 @@ impl<'a> HostReel<'a> {
         ensures events { held result ≡ [] }
         ensures room { room_in result.bytes.now ≡ room_in bytes.old }
         ensures bytes { result.bytes.now ≡ bytes.old }
-        ensures lender { result.bytes.ghost_name ≡ bytes.entry.ghost_name }
+        ensures loan { result.bytes.ghost_name ≡ bytes.entry.ghost_name }
     {
         HostReel { bytes, count: 0 }
+    }
+
+    /// Hands the bytes back.
+    pub fn into_bytes(self) -> &'a mut [u8]
+        ensures bytes { result.now ≡ self.entry.bytes.now }
+        ensures loan { result.ghost_name ≡ self.entry.bytes.ghost_name }
+    {
+        let HostReel { bytes, count: _ } = self;
+        bytes
     }
 }
 
@@ -28,6 +35,10 @@ impl Reel for HostReel<'_> {
     ghost events = { held };
 
     ghost room = { λ x. room_in x.bytes.now };
+
+    ghost lent = { λ x. x.bytes.now };
+
+    ghost loan = { λ x. x.bytes.ghost_name ∷ [] };
 
     ghost few = { held_few };
 
@@ -38,28 +49,28 @@ impl Reel for HostReel<'_> {
     }
 
     fn capacity(&self) -> usize {
-        (self.bytes.len() / 8).min(65535)
+        (self.bytes.len() / RECORD).min(MOST_EVENTS)
     }
 
     fn event(&self, k: usize) -> Option<Event> {
         if k >= self.count {
             return None;
         }
-        decode(&self.bytes[8 * k..8 * k + 8]).ok()
+        decode(&self.bytes[RECORD * k..RECORD * k + RECORD]).ok()
     }
 
     fn take(&mut self, e: Event) -> Result<(), ReelFault>
         ensures taken { Taken (room_in self.old.bytes.now) (held self.old) e result (held self.new) }
         ensures same { room_in self.new.bytes.now ≡ room_in self.old.bytes.now }
-        ensures bytes { self.new.bytes.now ≡ (if is_ok result then replaced self.old.bytes.now (8 * length (held self.old)) (record_of e) else self.old.bytes.now) }
-        ensures lender { self.new.bytes.ghost_name ≡ self.old.bytes.ghost_name }
+        ensures lent { self.new.bytes.now ≡ recorded_in self.old.bytes.now (held self.old) (held self.new) }
+        ensures loan { self.new.bytes.ghost_name ∷ [] ≡ self.old.bytes.ghost_name ∷ [] }
     {
         if self.count >= self.capacity() {
             return Err(ReelFault::Full);
         }
         let HostReel { bytes, count } = self;
-        let at = 8 * *count;
-        bytes[at..at + 8].copy_from_slice(&encode(&e));
+        let at = RECORD * *count;
+        bytes[at..at + RECORD].copy_from_slice(&encode(&e));
         *count += 1;
         Ok(())
     }
@@ -67,8 +78,8 @@ impl Reel for HostReel<'_> {
     fn wipe(&mut self)
         ensures events { held self.new ≡ [] }
         ensures same { room_in self.new.bytes.now ≡ room_in self.old.bytes.now }
-        ensures bytes { self.new.bytes.now ≡ self.old.bytes.now }
-        ensures lender { self.new.bytes.ghost_name ≡ self.old.bytes.ghost_name }
+        ensures lent { self.new.bytes.now ≡ self.old.bytes.now }
+        ensures loan { self.new.bytes.ghost_name ∷ [] ≡ self.old.bytes.ghost_name ∷ [] }
     {
         self.count = 0;
     }

@@ -1,6 +1,6 @@
 -- The examples of entries.
 use Rattle.relations.proofs.entries.Goals as goal
-use Rattle.relations.proofs.Entering.{event_taken, full_refuses, recorded_as_read, stands_up_to_date}
+use Rattle.relations.proofs.Entering.{event_taken, full_refuses, recorded_as_read, stands_up_to_date, byte_entered}
 
 pub returns : goal.returns
 returns c = (
@@ -8,4 +8,5 @@ returns c = (
   full_refuses,
   recorded_as_read,
   stands_up_to_date,
+  byte_entered,
 )

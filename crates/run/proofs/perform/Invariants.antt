@@ -1,13 +1,17 @@
--- The replies so far, and the trace so far in the session.
-use Rattle.std.proofs.Common.{◌≡◌, length, take, vec_items}
+-- The calls so far are answered, and the session has the trace so far.
+use Rattle.std.proofs.Common.{◌≡◌, [], take}
+use Rattle.reel.specs.Lent.{recorded_in}
 use Rattle.run.specs.Runs.{so_far}
-use Rattle.run.proofs.Upholding.{Each}
+use Rattle.run.proofs.Upholding.{Answering}
 use Rattle.run.proofs.perform.Given as goal
 
-abbrev pub invariant-loop-request : goal.invariant-loop-request
-invariant-loop-request g l =
-    let room = l.initial.session.room in
-    (l.session.room ≡ room)
-    × (l.session.trace ≡ so_far room (take l.request-index l.requests))
-    × (length (vec_items l.replies) ≡ l.request-index)
-    × (Each room l.requests (vec_items l.replies))
+abbrev pub invariant-loop-call : goal.invariant-loop-call
+invariant-loop-call g l =
+    let start = l.initial.session in
+    record {
+      room : l.session.room ≡ start.room;
+      trace : l.session.trace ≡ so_far start.room (take l.call-index l.initial.calls);
+      lent : l.session.lent ≡ recorded_in start.lent [] l.session.trace;
+      loan : l.session.loan ≡ start.loan;
+      answering : Answering start.room l.initial.calls l.call-index l.calls;
+    }

@@ -21,10 +21,9 @@ impl<R: Reel> Session<R> {
             return;
         }
         let base = closure_before(&SyncRule {}, &self.reel, &[q]);
-        // a range, since positions are what is asked about; as a chain, its last closure would change the collector that it captures, no plainer
         for p in 0..q {
             if self.races_beyond(&base, p, q) {
-                // casts, since every position fits, and a `try_from` would need an answer for one that does not
+                // every position fits
                 out.push(T::of(p as u16, q as u16));
             }
         }
@@ -53,7 +52,6 @@ impl<R: Reel> Session<R> {
     fn collect_sweep(&self, out: &mut Collector<'_, RacePair>)
         ensures { (xs : List Pair) × SweepOf self.now.trace xs × Adds xs out.old out.new }
     {
-        // a range, as in `collect_partners`
         for q in 0..self.count() {
             self.collect_partners(q, out);
         }

@@ -14,7 +14,6 @@ use reorder::vet::leaves;
 
 impl<R: Reel> Session<R> {
     /// Whether the two positions can be asked about.
-    // p and q stay two parameters, here and in the calls: a struct of any two positions would be made by each caller, no plainer
     pub(super) fn check_pair(&self, p: usize, q: usize) -> Result<(), PairFault>
         ensures { refusal_in pair_number result ≡ pair_refusal self.now.trace p q }
     {
@@ -53,7 +52,6 @@ impl<R: Reel> Session<R> {
         ensures order { let t = self.now.trace in Answers t p q (NotScheduledBefore t p q) result }
     {
         self.check_pair(p, q)?;
-        // a match, as in reorder's `has_previous`: a proof is told nothing of the cut that is made inside a closure of `is_none_or`
         match previous(&self.reel, q) {
             None => Ok(true),
             Some(last) => {

@@ -49,7 +49,6 @@ impl<R: Reel> Session<R> {
         ensures races { let t = self.now.trace in Judged t p q (Races t p q) result }
     {
         self.check_pair(p, q)?;
-        // a match on what was found, since a bool between, and a `From` for it, would be no plainer
         match self.race(p, q) {
             Some(_) => Ok(Verdict::Race),
             None => Ok(Verdict::NoRace),
@@ -62,15 +61,13 @@ impl<R: Reel> Session<R> {
     {
         for (position, event) in self.reel.iter().enumerate() {
             if cut.holds(position, &event) {
-                // a cast, since every position fits, and a `try_from` would need an answer for one that does not
+                // every position fits
                 out.push(position as u16);
             }
         }
     }
 
     /// Writes the positions that the cut has, ascending.
-    // not one function with `write_partners` and `sweep`, over a closure that collects: it might put another collector in the place of the one
-    // that it is lent, so that what the buffer then holds would not be known, and the proof would not close
     fn write_cut(&self, cut: &Cut, buffer: &mut [u16]) -> Result<usize, BufferFault>
         ensures { let t = self.now.trace in Filled (listed (held t cut.now.bounds) (length t)) buffer.old result buffer.new }
     {

@@ -6,7 +6,7 @@ use crate::event::Event;
 use crate::kind::Kind;
 
 impl Event {
-    /// Whether the two conflict: reads or writes of one variable by different threads, at least one a write.
+    /// Whether two threads meet here at one variable, and do not both only read it.
     pub fn conflicts(&self, other: &Event) -> bool
         ensures { result ≡ conflict self.now other.now }
     {

@@ -1,13 +1,25 @@
-use Rattle.std.proofs.Common.{ℕ, List, ap, ◌∙◌, Bor}
+use Rattle.std.proofs.Common.{take, sym, arith}
+use Rattle.std.proofs.lemmas.List.{length-take-le}
 use Rattle.std.proofs.lemmas.Result.{IfOk-weaker}
-use Rattle.report.proofs.Gathered.{gathered, front_part}
+use Rattle.report.proofs.Gathered.{not_refused, gathered}
 use Rattle.report.proofs.races.partner_lines.Goals as goal
 
+pub unreachable-requires : goal.unreachable-requires
+unreachable-requires g c = not_refused c.requires.inside c.requires.places c.partners.ensures c.in_default.field-0 c.in_default.is
+
+pub slice_bounds-pair_lines-end : goal.slice_bounds-pair_lines-end
+slice_bounds-pair_lines-end g c = (gathered c.requires.inside c.requires.places c.partners.ensures c.in-Ok.count c.in-Ok.is).0
+
+pub slice_bounds-pair_lines-end-2 : goal.slice_bounds-pair_lines-end-2
+slice_bounds-pair_lines-end-2 g c =
+    let all = gathered c.requires.inside c.requires.places c.partners.ensures c.in-Ok.count c.in-Ok.is in
+    sym (length-take-le c.in-Ok.count c.partners.new.buffer all.0)
+
+pub pair_lines-requires-clause-partners : goal.pair_lines-requires-clause-partners
+pair_lines-requires-clause-partners g c = (gathered c.requires.inside c.requires.places c.partners.ensures c.in-Ok.count c.in-Ok.is).1
+
 pub returns : goal.returns
-returns g c = λ room.
-    let after = c.partners.new.buffer in
-    let all = rw (← c.unwrap_or-count.ensures) at (gathered room c.partners.ensures) in
-    let is = ap (λ (x : Bor (List ℕ)). x.now) c.unwrap_or-partners.ensures ∙ front_part after c.unwrap_or-count.result c.get.result _ c.get.ensures.lookup all.0 in
-    let partners = rw (← is) at all.1 in
-    IfOk-weaker c.pair_lines.result _ _ (λ text lines. record { partners = c.unwrap_or-partners.result.now; all = partners; lines = lines })
-    (c.pair_lines.ensures partners)
+returns g c =
+    let all = gathered c.requires.inside c.requires.places c.partners.ensures c.in-Ok.count c.in-Ok.is in
+    IfOk-weaker c.pair_lines.result _ _ (λ text lines. record { partners = take c.in-Ok.count c.partners.new.buffer; all = all.1; lines = lines })
+    c.pair_lines.ensures

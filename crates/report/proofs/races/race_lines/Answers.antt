@@ -12,8 +12,7 @@ loop-q-preserved g c =
     let t = c.args.session.now.trace in
     let i = c.loop-q.invariant in
     let pushed = c.in_ok-push_str.ensures.bytes in
-    let long = i.0 in
-    let p = c.in_ok-lines.ensures (let n = c.as_mut_slice.ensures.len in omega arith) in
+    let p = c.in_ok-lines.ensures in
     (i.0, (i.1.0 ++ pairs_with c.loop-q.q p.partners, sweep_more t i.1.1 p.all, rw (pushed, c.as_str.ensures.value) (lines_append t i.1.2 p.lines)))
 
 pub returns : goal.returns

@@ -1,5 +1,6 @@
 use Rattle.std.proofs.Common.{refl}
-use Rattle.session.proofs.Entries.{taken_in, stands_more}
+use Rattle.std.proofs.lemmas.Result.{err_from_is_err_and}
+use Rattle.session.proofs.Entries.{taken_in, turned_away, stands_more}
 use Rattle.session.proofs.session.Session.take_record.Goals as goal
 
 pub invariant_of-self-2 : goal.invariant_of-self-2
@@ -8,5 +9,11 @@ invariant_of-self-2 g c = stands_more _ _ _ _ _ _ c.self.invariant c.in_ok-turn.
 pub returns : goal.returns
 returns g c =
     rw (← c.self.view_is)
-    (λ i. taken_in _ _ i _ _ c.self.invariant _ c.in_ok-event.ensures.answer _ c.in_ok-turn.ensures _ _ c.take.ensures.same
-    c.in_ok-take.ensures.taken (c.in_ok-event.ensures.back _ refl))
+    (taken_in _ _ _ _ _ _ _ _ _ c.take.ensures.same c.take.ensures.lent c.take.ensures.loan _ c.self.invariant _ c.in_ok-event.ensures.answer _
+    c.in_ok-turn.ensures c.in_ok-take.ensures.taken (c.in_ok-event.ensures.back _ refl))
+
+pub returns-in_err-turn : goal.returns-in_err-turn
+returns-in_err-turn g c =
+    let e = err_from_is_err_and c.from_residual-in_err-turn.result c.from_residual-in_err-turn.ensures.1 in
+    let stands = c.self.invariant in
+    rw (e.1, e.2, ← c.self.view_is) (turned_away _ _ _ _ _ _ stands c.in_ok-event.ensures.answer c.in_err-turn.ensures)

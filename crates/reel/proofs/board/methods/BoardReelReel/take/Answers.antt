@@ -16,4 +16,6 @@ returns c =
         events = rw (c.put.ensures.count, c.put.ensures.entries) (take_more_set x.table.entries x.table.count c.args.e (omega arith));
       };
       same = refl;
+      lent = refl;
+      loan = refl;
     }

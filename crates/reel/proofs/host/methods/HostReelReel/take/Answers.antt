@@ -14,4 +14,4 @@ pub returns : goal.returns
 returns c =
     let n = c.args.self.now.counted in
     let g = grows c.args.self.now c.args.e _ (omega arith) (c.copy_from_slice.ensures.after ∙ c.encode.ensures.bytes) in
-    record { taken = record { answer = has_room _ (held c.args.self.now) (omega arith); events = g.events }; same = g.room; bytes = g.bytes; lender = refl }
+    record { taken = record { answer = has_room _ (held c.args.self.now) (omega arith); events = g.events }; same = g.room; lent = g.lent; loan = refl }
