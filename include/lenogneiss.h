@@ -14,6 +14,11 @@
 #include <stddef.h>
 #include <stdint.h>
 
+/* The version. */
+#define LENOGNEISS_VERSION_MAJOR 0
+#define LENOGNEISS_VERSION_MINOR 1
+#define LENOGNEISS_VERSION_PATCH 0
+
 #ifdef __cplusplus
 extern "C" {
 #endif

@@ -12,16 +12,16 @@ use std::io::{Read, Write};
 use trace::record::RECORD;
 
 pub mod call;
-mod reading;
+pub mod reading;
 
 /// How many events the programs have room for.
 pub const ROOM: usize = 4096;
 
 /// How many bytes they keep them in.
-const STORAGE: usize = ROOM * RECORD;
+pub const STORAGE: usize = ROOM * RECORD;
 
 /// How many bytes of a dump decide: one record more.
-const DECIDING: usize = STORAGE + RECORD;
+pub const DECIDING: usize = STORAGE + RECORD;
 
 /// A text that is made of an input.
 pub trait InputText {

@@ -28,7 +28,7 @@ fn fill<I: Read>(input: &mut I, buffer: &mut [u8]) -> io::Result<usize>
 }
 
 /// The first bytes of the input, `most` at most; what is behind them is still to be read.
-pub(crate) fn read_front<I: Read>(heap: Global, input: &mut I, most: usize) -> io::Result<Vec<u8>>
+pub fn read_front<I: Read>(heap: Global, input: &mut I, most: usize) -> io::Result<Vec<u8>>
     ensures front { IfOk result (λ front. IfSome (I.remaining input.old) (λ bytes. vec_items front ≡ take most bytes)) }
     ensures left { OnOk result (LeavesBehind (I.remaining input.old) most (I.remaining input.new)) }
 {

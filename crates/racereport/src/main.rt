@@ -7,7 +7,7 @@ ghost use Rattle.report.proofs.Deciding.{report_decided};
 
 use program::call::Program;
 use program::{DumpText, InputText, print_dump_text};
-use report::races::race_report_of;
+use report::told::races::told_report;
 use std::alloc::Global;
 use std::io;
 use std::process::ExitCode;
@@ -26,7 +26,7 @@ impl InputText for RaceReport {
     ghost Makes = { λ _ size dump s. ReportOf (room_for size) dump s };
 
     fn text(&self, heap: Global, size: usize, dump: &[u8]) -> anyhow::Result<String> {
-        Ok(race_report_of(heap, size, dump)?)
+        Ok(told_report(heap, size, dump)?.told.text)
     }
 }
 

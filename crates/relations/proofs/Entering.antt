@@ -6,7 +6,7 @@ use Rattle.trace.specs.declared.kind.Kind.TheVariants.{Read, Write, Acquire}
 use Rattle.trace.specs.Records.{record_of}
 use Rattle.trace.proofs.Records.{record_means}
 use Rattle.cases.specs.Examples.{event}
-use Rattle.relations.specs.Entries.{EventTaken, FullRefuses, RecordedAsRead, StandsUpToDate, ByteEntered}
+use Rattle.relations.specs.Entries.{EventTaken, FullRefuses, RecordedAsRead, StandsUpToDate}
 use Rattle.relations.proofs.Tracing.{free_tells, held_tells, table_stays}
 
 pub event_taken : EventTaken
@@ -55,11 +55,4 @@ stands_up_to_date = (
   record { admitted = tt; tells = free_tells },
   record { admitted = (refl, tt); tells = held_tells (event Acquire 0 0 tt tt) refl refl },
   λ table a b. table_stays table a.tells b.tells,
-)
-
-pub byte_entered : ByteEntered
-byte_entered = (
-  record { trace = refl; room = refl; lent = refl; loan = refl },
-  λ h. let e = h.trace in grind arith,
-  λ h. let e = h.lent in grind arith,
 )

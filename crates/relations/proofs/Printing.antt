@@ -1,5 +1,5 @@
 -- The examples of texts.
-use Rattle.std.proofs.Common.{◌≡◌, ℕ, ◌↔◌, List, [], ◌∷◌, ◌++◌, map, length, Some, None, Ok, Err, sym, refl, ap, ◌∙◌, subst, arith, length-append, append-nil}
+use Rattle.std.proofs.Common.{◌≡◌, ℕ, ◌↔◌, List, [], ◌∷◌, ◌++◌, map, length, Some, None, Ok, Err, sym, refl, ap, ◌∙◌, subst, arith, lit<, Bor, length-append, append-nil}
 use mathlib.Core.List.Memᴰ
 use mathlib.Core.List.{Memᴰ}
 use Rattle.std.proofs.lemmas.Option.{none-some}
@@ -11,20 +11,30 @@ use Rattle.answer.specs.declared.verdict.RacePair.{RacePair}
 use Rattle.session.specs.Entries.{Outcome, enter_all}
 use Rattle.session.specs.Questions.Answers.{refused}
 use Rattle.session.specs.Races.{PartnersOf, RacingPair, pair}
-use Rattle.session.specs.Races.Judged.{refused as judge_refused, race, no_race}
 use Rattle.session.proofs.Asked.{asked}
 use Rattle.run.specs.declared.Call.{Call}
 use Rattle.run.specs.declared.Call.TheVariants.{Judge}
-use Rattle.run.specs.Runs.{Served, Upholds}
-use Rattle.run.specs.Runs.Served.{judged}
+use Rattle.run.specs.Runs.{Upholds}
 use Rattle.report.specs.Reports.{RaceLines, SweepLines, Reported}
 use Rattle.report.specs.Reports.RaceLines.{none, more}
 use Rattle.report.specs.Texts.{events_line, refusal_line, After}
-use Rattle.replies.specs.Replies.{reply_lines}
+use Rattle.report.specs.declared.told.Finding.{Finding}
+use Rattle.report.specs.declared.told.Finding.TheVariants.{Refused, Nothing}
+use Rattle.report.specs.Refusals.{refused_record}
+use Rattle.report.specs.Told.{AnswersTold, VerdictTold, FindsRaces}
+use Rattle.report.specs.Told.AnswersTold.{refused as told_refused, answered as told_answered}
+use Rattle.report.specs.Told.VerdictTold.{race as told_race, no_race as told_no_race}
+use Rattle.report.specs.Told.FindsRaces.{race as finds_race, none as finds_none}
+use Rattle.report.specs.Witnesses.{WitnessTold, found_among, PartnersTold}
+use Rattle.report.specs.Witnesses.WitnessTold.{shown as told_shown, no_race as witness_no_race}
+use Rattle.report.specs.Witnesses.PartnersTold.{refused as told_past, found as told_found}
+use Rattle.replies.specs.Replies.{told_lines}
 use Rattle.cases.specs.Examples.{three_accesses}
 use Rattle.cases.specs.Cases.{three_pairs}
 use Rattle.cases.proofs.Sweeping.{three_swept}
-use Rattle.relations.specs.Texts.{first, second, third, three_races, cut_record, three_refusals, LineOfPair, AllLines, PairsReported, RecordsReported, CutReported, NothingReported, RefusalsAnswered, RecordsAnswered, LinePlayed}
+use Rattle.relations.specs.Texts.{first, second, third, three_races, cut_record, three_refusals, LineOfPair, AllLines, PairsReported, RecordsReported, CutReported, NothingReported, RefusalsAnswered, RecordsAnswered, RaceTold, WitnessShown, PartnersListed, RacesFound, LineTold}
+use Rattle.relations.proofs.Racing.{least_shown}
+use Rattle.relations.proofs.Partnering.{both_partners}
 use Rattle.relations.proofs.Running.{empty_upheld}
 
 no_line : RaceLines three_accesses (pair 0 1 ∷ []) [] → ⊥
@@ -113,7 +123,7 @@ refusals_answered list = (
 
 pub records_answered : RecordsAnswered
 records_answered room list = (
-  record {
+  told_refused refl (record {
     unordered = Err NoEvent;
     schedulable = Err NoEvent;
     vet = Err NoEvent;
@@ -121,24 +131,59 @@ records_answered room list = (
     schedulable_is = refused refl;
     vet_is = refused refl;
     text_is = refl;
-  },
-  refl,
-  λ h. let e : three_refusals ≡ refusal_line cut_record = h in grind arith,
+  }),
+  (refl, refl),
+  λ h. let e : three_refusals ≡ refused_record room (1 ∷ []) cut_record = h.0 in grind arith,
+  λ h. nothing h,
 )
+  where
+    nothing : AnswersTold [] 0 1 list three_refusals Nothing → ⊥
+    nothing (told_answered is a) = none-some 8 (sym is)
 
--- an answered Judge has a line
-has_line : (room : ℕ) (t : List Event) (y : Call) → Served room t (Judge 0 1 None) y → [] ≡ reply_lines (y ∷ []) → ⊥
-has_line room t y (judged (judge_refused h)) e = grind arith
-has_line room t y (judged (race h r)) e = grind arith
-has_line room t y (judged (no_race h r)) e = grind arith
+-- the first access and the third race
+two_race : RacingPair three_accesses 0 2
+two_race = (both_partners.0.exact 0).0 (Memᴰ.head refl)
 
-no_text : (room : ℕ) (ys : List Call) → Upholds room (Judge 0 1 None ∷ []) ys → [] ≡ reply_lines ys → ⊥
-no_text room [] u e = let m = u.many in omega arith
-no_text room (y ∷ []) u e = has_line room [] y (u.each 0 (record { asked = Judge 0 1 None; answered = y; asked_is = refl; answered_is = refl })) e
-no_text room (y ∷ z ∷ ys) u e = let m = u.many in omega arith
+pub race_told : RaceTold
+race_told = (told_race two_race.0 two_race.1, no)
+  where
+    no : (text : List ℕ) → VerdictTold three_accesses 0 2 text Nothing → ⊥
+    no text (told_no_race is apart) = apart two_race.1
 
-pub line_played : LinePlayed
-line_played room = (
+pub witness_shown : WitnessShown
+witness_shown = (
+  told_shown refl least_shown.0 (λ k e at. (λ m. absurd (Memᴰ.not-nil m), λ x. absurd (none-some x.0 x.1))),
+  no,
+)
+  where
+    no : (text : List ℕ) → WitnessTold three_accesses 0 1 text Nothing → ⊥
+    no text (witness_no_race is apart) = apart ([], least_shown.0.leaves)
+
+-- what partners find is no refusal
+found_no_refusal : (ps : List ℕ) → found_among ps ≡ Refused → ⊥
+found_no_refusal [] e = cc
+found_no_refusal (p ∷ ps) e = cc
+
+pub partners_listed : PartnersListed
+partners_listed = (told_found (lit< tt) both_partners.0, no)
+  where
+    no : (text : List ℕ) (f : Finding) → PartnersTold three_accesses 2 text f → f ≡ Refused → ⊥
+    no text f (told_past past) e = omega arith
+    no text f (told_found {ps} inside all) e = found_no_refusal ps e
+
+pub races_found : RacesFound
+races_found = (finds_race two_race, no)
+  where
+    no : FindsRaces three_accesses Nothing → ⊥
+    no (finds_none apart) = apart 0 2 two_race
+
+-- the text of one call is not empty
+no_text : (room : ℕ) (w : Bor (List ℕ)) (ys : List Call) → Upholds room (Judge 0 1 None ∷ []) ys → [] ≡ told_lines (w ∷ []) ys → ⊥
+no_text room w [] u e = let m = u.many in omega arith
+no_text room w (y ∷ ys) u e = grind arith
+
+pub line_told : LineTold
+line_told room w = (
   record { back = Judge 0 1 (Some (Err NoEvent)) ∷ []; upheld = (empty_upheld room).0; text_is = refl },
-  λ h. no_text room h.back h.upheld h.text_is,
+  λ h. no_text room w h.back h.upheld h.text_is,
 )

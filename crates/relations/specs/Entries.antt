@@ -11,7 +11,6 @@ use Rattle.answer.specs.declared.fault.EntryRefusal.{EntryRefusal}
 use Rattle.answer.specs.Faults.{at_index}
 use Rattle.session.specs.States.{State}
 use Rattle.session.specs.Entries.{enter, Recorded, Stands, Takes}
-use Rattle.report.specs.Texts.{EntersAll}
 use Rattle.cases.specs.Examples.{event}
 use Rattle.relations.specs.Traces.{free_table, held_by}
 
@@ -67,9 +66,3 @@ abbrev pub StandsUpToDate : Type 0
 StandsUpToDate =
     let e = event Acquire 0 0 tt tt in
     Stands free_table [] × Stands (held_by 0) (e ∷ []) × ((table : LockTable) → Stands table [] → Stands table (e ∷ []) → ⊥)
-
--- of an input of one byte nothing is entered; wrong: an event is, and the lent bytes are others
-abbrev pub ByteEntered : Type 0
-ByteEntered =
-    let entered : List Event → List ℕ → Type 0 = λ after lent. EntersAll (with_room [] blank) (1 ∷ []) (with_room after lent) in
-    entered [] blank × (entered (event Write 0 0 tt tt ∷ []) (record_of (event Write 0 0 tt tt)) → ⊥) × (entered [] [] → ⊥)

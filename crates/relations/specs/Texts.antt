@@ -1,5 +1,6 @@
 -- The texts that the programs print.
-use Rattle.std.specs.Prelude.{ℕ, List, [], ◌∷◌, ◌++◌, Some, None, Err}
+use Rattle.std.specs.Prelude.{◌≡◌, ℕ, List, [], ◌∷◌, ◌++◌, Some, None, Err, codes}
+use Rattle.std.specs.Borrow.{Bor}
 use Rattle.trace.specs.declared.event.Event.{Event}
 use Rattle.trace.specs.declared.kind.Kind.TheVariants.{Read, Write}
 use Rattle.trace.specs.Records.{record_of}
@@ -8,10 +9,15 @@ use Rattle.answer.specs.declared.fault.PairFault.TheVariants.{NoEvent}
 use Rattle.answer.specs.Faults.{Refusal}
 use Rattle.session.specs.Races.{pair}
 use Rattle.run.specs.declared.Call.TheVariants.{Judge}
-use Rattle.report.specs.Answers.{answer_text, three_lines, Answered, AnsweredOf}
+use Rattle.report.specs.Answers.{answer_text, three_lines, Answered}
 use Rattle.report.specs.Reports.{race_line, RaceLines, PartnerLines, SweepLines, Reported, ReportOf}
+use Rattle.report.specs.declared.told.Finding.{Finding}
+use Rattle.report.specs.declared.told.Finding.TheVariants.{Refused, Race, Nothing}
+use Rattle.report.specs.Refusals.{refused_record}
 use Rattle.report.specs.Texts.{events_line, refusal_line}
-use Rattle.replies.specs.Replies.{reply_line, Played}
+use Rattle.report.specs.Told.{ToldOf, AnswersTold, VerdictTold, FindsRaces}
+use Rattle.report.specs.Witnesses.{witness_text, WitnessTold, partners_text, PartnersTold}
+use Rattle.replies.specs.Replies.{told_line, Told}
 use Rattle.cases.specs.Examples.{event, three_accesses}
 
 -- the three accesses
@@ -68,14 +74,35 @@ three_refusals = three_lines (answer_text (Err 8)) (answer_text (Err 8)) (answer
 abbrev pub RefusalsAnswered : Type 0
 RefusalsAnswered = (list : List ℕ) → Answered three_accesses 0 3 list three_refusals × (Answered three_accesses 0 3 list [] → ⊥)
 
--- and so are the answers about the records of an input; wrong: these answers where a record is refused
+-- and so are the answers about the records of an input; wrong: these answers where a record is refused, and that nothing is refused
 abbrev pub RecordsAnswered : Type 0
 RecordsAnswered =
     (room : ℕ) (list : List ℕ)
-    → AnsweredOf room [] 0 1 list three_refusals × AnsweredOf room (1 ∷ []) 0 1 list (refusal_line cut_record)
-    × (AnsweredOf room (1 ∷ []) 0 1 list three_refusals → ⊥)
+    → let told : List ℕ → List ℕ → Finding → Type 0 = λ input text finding. ToldOf room input (λ t s f. AnswersTold t 0 1 list s f) text finding in
+    told [] three_refusals Refused × told (1 ∷ []) (refused_record room (1 ∷ []) cut_record) Refused × (told (1 ∷ []) three_refusals Refused → ⊥)
+    × (told [] three_refusals Nothing → ⊥)
 
--- the line of the answer is played; wrong: the empty text
-abbrev pub LinePlayed : Type 0
-LinePlayed =
-    (room : ℕ) → Played room (Judge 0 1 None ∷ []) (reply_line (Judge 0 1 (Some (Err NoEvent))) ++ []) × (Played room (Judge 0 1 None ∷ []) [] → ⊥)
+-- the first and the third access race, and a person is told so; wrong: that nothing is found
+abbrev pub RaceTold : Type 0
+RaceTold = VerdictTold three_accesses 0 2 (codes "race\n") Race × ((text : List ℕ) → VerdictTold three_accesses 0 2 text Nothing → ⊥)
+
+-- the witness of the first two is told, which has no event; wrong: that nothing is found
+abbrev pub WitnessShown : Type 0
+WitnessShown =
+    WitnessTold three_accesses 0 1 (witness_text three_accesses []) Race × ((text : List ℕ) → WitnessTold three_accesses 0 1 text Nothing → ⊥)
+
+-- the partners of the third are told; wrong: that its question is refused
+abbrev pub PartnersListed : Type 0
+PartnersListed =
+    PartnersTold three_accesses 2 (partners_text (0 ∷ 1 ∷ [])) Race × ((text : List ℕ) (f : Finding) → PartnersTold three_accesses 2 text f → f ≡ Refused → ⊥)
+
+-- a report of the three finds a race; wrong: that it finds nothing
+abbrev pub RacesFound : Type 0
+RacesFound = FindsRaces three_accesses Race × (FindsRaces three_accesses Nothing → ⊥)
+
+-- the line of the answer stands below the words of its call; wrong: the empty text
+abbrev pub LineTold : Type 0
+LineTold =
+    (room : ℕ) (w : Bor (List ℕ))
+    → let told : List ℕ → Type 0 = Told room (w ∷ []) (Judge 0 1 None ∷ []) in
+    told (told_line w.now (Judge 0 1 (Some (Err NoEvent))) ++ []) × (told [] → ⊥)

@@ -12,13 +12,13 @@ ghost use Rattle.relations.specs.Closures.{CutFromFirst, LessInside, ClosedWithR
 ghost use Rattle.relations.specs.Closures.{OutsideSections, FoundOutside};
 ghost use Rattle.relations.specs.Orders.{ReleaseFirst, SectionsInOrder, NotBeforeByRead, ReadInOrder, NotScheduledByOther};
 ghost use Rattle.relations.specs.Buffers.{FilledAtStart, FilledWhenShort, FilledCollects, CollectedAtStart, OfferedCounts, AddsCount};
-ghost use Rattle.relations.specs.Entries.{EventTaken, FullRefuses, RecordedAsRead, StandsUpToDate, ByteEntered};
+ghost use Rattle.relations.specs.Entries.{EventTaken, FullRefuses, RecordedAsRead, StandsUpToDate};
 ghost use Rattle.relations.specs.Races.{OtherVerdict, OtherAnswer, OtherRefusal, SchedulablePair, WitnessClosed, LeastShown, SectionShown, WitnessWritten};
 ghost use Rattle.relations.specs.Races.{PairsThatRace, BothPartners, AcquireAlone, PartnersWritten, PartnersRefused, PairsInOrder, SweepWhole, SweepFits};
 ghost use Rattle.relations.specs.Runs.{VerdictSays, ListSays, FullServed, CutServed, VerdictServed, EmptyUpheld, EnteredStays};
 ghost use Rattle.relations.specs.Runs.{RaceOnceEntered, VerdictStays, WitnessAgrees, WitnessStays};
 ghost use Rattle.relations.specs.Texts.{LineOfPair, AllLines, PairsReported, RecordsReported, CutReported, NothingReported, RefusalsAnswered};
-ghost use Rattle.relations.specs.Texts.{RecordsAnswered, LinePlayed};
+ghost use Rattle.relations.specs.Texts.{RecordsAnswered, RaceTold, WitnessShown, PartnersListed, RacesFound, LineTold};
 
 /// Traces, the table of lock holders, and reels.
 pub fn traces()
@@ -59,7 +59,7 @@ pub fn buffers()
 
 /// Records that are offered to a session.
 pub fn entries()
-    ensures { EventTaken × FullRefuses × RecordedAsRead × StandsUpToDate × ByteEntered }
+    ensures { EventTaken × FullRefuses × RecordedAsRead × StandsUpToDate }
 {}
 
 /// Verdicts, witnesses, partners and sweeps.
@@ -77,5 +77,5 @@ pub fn runs()
 /// The texts that the programs print.
 pub fn texts()
     ensures { LineOfPair × AllLines × PairsReported × RecordsReported × CutReported × NothingReported × RefusalsAnswered
-        × RecordsAnswered × LinePlayed }
+        × RecordsAnswered × RaceTold × WitnessShown × PartnersListed × RacesFound × LineTold }
 {}

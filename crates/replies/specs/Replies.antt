@@ -1,5 +1,6 @@
 -- The text of the answered calls of a run: a line for each, in their order.
-use Rattle.std.specs.Prelude.{◌≡◌, ℕ, List, ◌++◌, Some, None, Ok, Err, Option, vec_items, codes, decimal, Result}
+use Rattle.std.specs.Prelude.{◌≡◌, ℕ, List, [], ◌∷◌, ◌++◌, Some, None, Ok, Err, Option, vec_items, codes, decimal, Result}
+use Rattle.std.specs.Borrow.{Bor}
 use Rattle.std.specs.List.{flat_map}
 use Rattle.answer.specs.declared.collector.BufferFault.{BufferFault}
 use Rattle.answer.specs.declared.fault.EntryRefusal.{EntryRefusal}
@@ -109,8 +110,18 @@ reply_line (Sweep buffer r) = sweep_line r (vec_items buffer)
 abbrev pub reply_lines : List Call → List ℕ
 reply_lines calls = flat_map reply_line calls
 
--- the text has the lines of these calls as they come back from a run that keeps the promise over whole runs
-pub record Played (room : ℕ) (calls : List Call) (text : List ℕ) : Type 0 where
+-- the words that stand for a call in a script, and the line of the call below
+abbrev pub told_line : List ℕ → Call → List ℕ
+told_line words call = codes "> " ++ (words ++ (codes "\n" ++ reply_line call))
+
+-- the same of calls and their words, one after another, as far as there are both
+abbrev pub told_lines : List (Bor (List ℕ)) → List Call → List ℕ
+told_lines [] calls = []
+told_lines (w ∷ words) [] = []
+told_lines (w ∷ words) (c ∷ calls) = told_line w.now c ++ told_lines words calls
+
+-- the text has the words of these calls and their lines, as they come back from a run that keeps the promise over whole runs
+pub record Told (room : ℕ) (words : List (Bor (List ℕ))) (calls : List Call) (text : List ℕ) : Type 0 where
   pub back : List Call
   pub upheld : Upholds room calls back
-  pub text_is : text ≡ reply_lines back
+  pub text_is : text ≡ told_lines words back

@@ -6,7 +6,7 @@ ghost use Rattle.std.specs.Fmt.{DisplaysOnOk};
 ghost use Rattle.std.specs.List.{flat_map};
 ghost use Rattle.reel.specs.Stored.{room_for};
 ghost use Rattle.answer.specs.Faults.{refusal};
-ghost use Rattle.replies.specs.Replies.{layer_name, verdict_name, position_entry, pair_entry, refused_entry, buffer_line, enter_line, load_line, judge_line, reply_line, reply_lines, Played};
+ghost use Rattle.replies.specs.Replies.{layer_name, verdict_name, position_entry, pair_entry, refused_entry, buffer_line, enter_line, load_line, judge_line, reply_line, reply_lines, told_lines, Told};
 
 use answer::fault::{EntryRefusal, Layer, Layered, PairFault};
 use answer::verdict::{RacePair, Verdict};
@@ -262,12 +262,32 @@ pub fn reply_lines(heap: Global, calls: &[Call]) -> Result<String, AllocError>
     Texts(calls).to_string(heap)
 }
 
-/// Performs the calls one after another on a session that is opened over a host reel in `size` bytes, which are made here, and returns
-/// their lines.
-pub fn played_in(heap: Global, size: usize, mut calls: Vec<Call>) -> Result<String, AllocError>
-    ensures { IfOk result (λ s. Played (room_for size) (vec_items calls) (string_bytes s)) }
+/// The lines of calls, each below the words that stand for it in a script.
+fn told_lines(heap: Global, words: &[&str], calls: &[Call]) -> Result<String, AllocError>
+    ensures { IfOk result (λ s. string_bytes s ≡ told_lines words.now calls.now) }
+{
+    let mut text = String::new(heap);
+    for (index, call) in calls.iter().enumerate() {
+        let Some(words) = words.get(index) else {
+            break;
+        };
+        let line = Line(call);
+        write!(text, "> {words}\n{line}")?;
+    }
+    Ok(text)
+}
+
+/// Performs the calls of a script one after another on a session that is opened over a host reel in `size` bytes, which are made here, and
+/// returns their lines, each below the words of the call.
+pub fn told_in(
+    heap: Global,
+    size: usize,
+    words: &[&str],
+    mut calls: Vec<Call>,
+) -> Result<String, AllocError>
+    ensures { IfOk result (λ s. Told (room_for size) words.now (vec_items calls) (string_bytes s)) }
 {
     let mut storage = vec![in heap; 0u8; size]?;
     let _session = perform(HostReel::over(storage.as_mut_slice()), calls.as_mut_slice());
-    reply_lines(heap, calls.as_slice())
+    told_lines(heap, words, calls.as_slice())
 }

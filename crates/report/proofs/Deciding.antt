@@ -9,9 +9,8 @@ use Rattle.answer.specs.declared.fault.Layer.TheVariants.{Trace, Reel}
 use Rattle.answer.specs.Faults.{Refusal}
 use Rattle.session.specs.Entries.{Outcome, unless, checked, offered, records, record_count, enter_from, enter_all}
 use Rattle.reel.specs.Stored.{room_for}
-use Rattle.report.specs.Texts.{After, listing_after, listing_of}
+use Rattle.report.specs.Texts.{After}
 use Rattle.report.specs.Reports.{Reported, ReportOf}
-use Rattle.report.specs.Answers.{Answered, AnsweredOf}
 use Rattle.report.specs.Deciding.{Deciding}
 
 -- the first m records of some bytes are those of the first 8 m bytes
@@ -28,7 +27,7 @@ first_records (suc k) (suc m) (suc c) bytes is =
 
 module _ (room : ℕ) where
   -- no record is taken where there is no room
-  no_more : (t : List Event) (i : ℕ) (m : Result Event ℕ) (e : Event) → room ≤ length t → checked room t i m ≡ Ok e → ⊥
+  pub no_more : (t : List Event) (i : ℕ) (m : Result Event ℕ) (e : Event) → room ≤ length t → checked room t i m ≡ Ok e → ⊥
   no_more t i (Err n) e full is = grind arith
   no_more t i (Ok d) e full is = by (trace_refusal (holders_after t) d) (rw (le-ltb (length t) room full) at is)
     where
@@ -71,11 +70,5 @@ module _ (size : ℕ) (input : List ℕ) where
   same = deciding (room_for size) (size + 8) input (omega arith)
 
   module _ (s : List ℕ) where
-    pub listing_decided : s ≡ listing_of (room_for size) (take (size + 8) input) → s ≡ listing_of (room_for size) input
-    listing_decided made = made ∙ ap (λ (o : Outcome ℕ). listing_after o.answer o.events) same
-
     pub report_decided : ReportOf (room_for size) (take (size + 8) input) s → ReportOf (room_for size) input s
     report_decided made = subst (λ (o : Outcome ℕ). After Reported o.answer o.events s) same made
-
-    pub answers_decided : (p q : ℕ) (list : List ℕ) → AnsweredOf (room_for size) (take (size + 8) input) p q list s → AnsweredOf (room_for size) input p q list s
-    answers_decided p q list made = subst (λ (o : Outcome ℕ). After (λ t s. Answered t p q list s) o.answer o.events s) same made

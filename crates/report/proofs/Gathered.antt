@@ -12,7 +12,7 @@ use Rattle.session.specs.Races.Partnered.{refused, written}
 use Rattle.session.proofs.Asked.{asked}
 
 -- an ascending list of numbers from m on and below n has n - m members at most
-ascending_fits : (m n : ℕ) (xs : List ℕ) → Ascending xs → ((k : ℕ) → Memᴰ k xs → (m ≤ k) × (k < n)) → length xs ≤ n - m
+pub ascending_fits : (m n : ℕ) (xs : List ℕ) → Ascending xs → ((k : ℕ) → Memᴰ k xs → (m ≤ k) × (k < n)) → length xs ≤ n - m
 ascending_fits m n [] a between = omega arith
 ascending_fits m n (x ∷ xs) a between =
     let rest = ascending_fits (x + 1) n xs a.1 (λ k i. (let l = a.0 k i in omega arith, (between k (Memᴰ.tail i)).1)) in
@@ -21,7 +21,7 @@ ascending_fits m n (x ∷ xs) a between =
 
 module _ {t : List Event} {q : ℕ} where
   -- so the trace has at least as many events as q has partners
-  partners_fit : {ps : List ℕ} → PartnersOf t q ps → length ps ≤ length t
+  pub partners_fit : {ps : List ℕ} → PartnersOf t q ps → length ps ≤ length t
   partners_fit {ps} partners =
       let short = ascending_fits 0 (length t) ps partners.ascending
       (λ p i. let a = asked t p q (sym ((partners.exact p).0 i).0) in (omega arith, at_inside t p a.first a.first_is)) in

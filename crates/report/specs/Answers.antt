@@ -28,7 +28,3 @@ pub record Answered (t : List Event) (p q : ℕ) (list text : List ℕ) : Type 0
   pub vet_is : Answers t p q (Vetted t p q list) vet
   pub text_is : text ≡ three_lines (answer_text (told pair_number unordered)) (answer_text (told pair_number schedulable))
       (answer_text (told pair_number vet))
-
--- the text where the records of an input are entered first: the line of the first refusal, or the answers on their events
-abbrev pub AnsweredOf : ℕ → List ℕ → ℕ → ℕ → List ℕ → List ℕ → Type 0
-AnsweredOf room input p q list text = let o = enter_all room [] input in After (λ t s. Answered t p q list s) o.answer o.events text

@@ -4,9 +4,6 @@ use Rattle.trace.specs.declared.event.Event.{Event}
 use Rattle.trace.specs.declared.kind.Kind.{Kind}
 use Rattle.trace.specs.declared.kind.Kind.TheVariants.{Read, Write, Acquire, Release}
 use Rattle.answer.specs.Faults.{Refusal}
-use Rattle.reel.specs.Lent.{recorded_in}
-use Rattle.session.specs.States.{State}
-use Rattle.session.specs.Entries.{enter_all}
 
 -- what an event of a kind does, and to what
 abbrev pub deed : Kind → List ℕ
@@ -42,20 +39,3 @@ refusal_line r = codes "refused " ++ (decimal r.number ++ (codes " record " ++ (
 abbrev pub After : (List Event → List ℕ → Type 0) → Result ℕ Refusal → List Event → List ℕ → Type 0
 After says (Ok n) t text = says t text
 After says (Err r) t text = text ≡ refusal_line r
-
--- a session after the records of an input were offered to it one after another: it has the events that were taken, its room, and what its lent
--- bytes hold then
-pub record EntersAll (old : State) (input : List ℕ) (new : State) : Type 0 where
-  pub trace : new.trace ≡ (enter_all old.room old.trace input).events
-  pub room : new.room ≡ old.room
-  pub lent : new.lent ≡ recorded_in old.lent old.trace new.trace
-  pub loan : new.loan ≡ old.loan
-
--- the listing of the events, if none was refused; else the line of the refusal
-abbrev pub listing_after : Result ℕ Refusal → List Event → List ℕ
-listing_after (Ok n) t = listing t
-listing_after (Err r) t = refusal_line r
-
--- what is printed of an input whose records are entered one after another, with room for so many events
-abbrev pub listing_of : ℕ → List ℕ → List ℕ
-listing_of room input = let o = enter_all room [] input in listing_after o.answer o.events

@@ -4,5 +4,6 @@
 pub mod listing;
 pub mod questions;
 pub mod races;
-mod texts;
+mod refusals;
 pub mod theorems;
+pub mod told;

@@ -1,10 +1,8 @@
 //! The listing of a dump: a line for each event, then their number; or the line of the first refusal.
 ghost use Rattle.std.specs.Prelude.{◌≡◌, IfOk, Some, string_bytes};
-ghost use Rattle.reel.specs.Stored.{room_for};
 ghost use Rattle.answer.specs.Faults.{refusal};
-ghost use Rattle.report.specs.Texts.{deed, event_line, event_lines, events_line, listing, refusal_line, listing_of};
+ghost use Rattle.report.specs.Texts.{deed, event_line, event_lines, events_line, listing, refusal_line};
 
-use crate::texts::{SessionText, text_in};
 use answer::fault::EntryRefusal;
 use reel::Reel;
 use session::session::Session;
@@ -123,23 +121,4 @@ pub fn listing<R: Reel>(heap: Global, session: &Session<R>) -> Result<String, Al
     let lines = EventLines(session);
     let last = EventsLine(session.count());
     format!(in heap; "{lines}{last}")
-}
-
-/// The listing, as a text of a session.
-#[derive(Clone, Copy)]
-struct ListingText;
-
-impl SessionText for ListingText {
-    ghost Says = { λ _ t s. s ≡ listing t };
-
-    fn text<R: Reel>(&self, heap: Global, session: &Session<R>) -> Result<String, AllocError> {
-        listing(heap, session)
-    }
-}
-
-/// The listing of the records in `input`, or the line of the first that is refused, with `size` bytes to keep the events in.
-pub fn listing_of(heap: Global, size: usize, input: &[u8]) -> Result<String, AllocError>
-    ensures { IfOk result (λ s. string_bytes s ≡ listing_of (room_for size) input.now) }
-{
-    text_in(heap, size, input, &ListingText)
 }

@@ -1,11 +1,9 @@
 //! The answers to the questions about two positions of a dump, a line each.
 ghost use Rattle.std.specs.Prelude.{IfOk, Some, string_bytes};
 ghost use Rattle.trace.specs.Faults.{told};
-ghost use Rattle.reel.specs.Stored.{room_for};
 ghost use Rattle.answer.specs.Faults.{pair_number};
-ghost use Rattle.report.specs.Answers.{answer_text, three_lines, Answered, AnsweredOf};
+ghost use Rattle.report.specs.Answers.{answer_text, three_lines, Answered};
 
-use crate::texts::{SessionText, text_in};
 use answer::fault::PairFault;
 use reel::Reel;
 use session::session::Session;
@@ -71,34 +69,4 @@ pub fn answers<R: Reel>(
         vet: Answer(session.vet(p, q, list)),
     };
     lines.to_string(heap)
-}
-
-/// The questions about two positions and a list, whose answers are a text of a session.
-#[derive(Clone, Copy)]
-struct AnswersText<'a> {
-    p: usize,
-    q: usize,
-    list: &'a [u16],
-}
-
-impl SessionText for AnswersText<'_> {
-    ghost Says = { λ it t s. Answered t it.p it.q it.list.now s };
-
-    fn text<R: Reel>(&self, heap: Global, session: &Session<R>) -> Result<String, AllocError> {
-        answers(heap, session, self.p, self.q, self.list)
-    }
-}
-
-/// The answers about the records in `input`, or the line of the first that is refused, with `size` bytes to keep the events in.
-pub fn answers_of(
-    heap: Global,
-    size: usize,
-    input: &[u8],
-    p: usize,
-    q: usize,
-    list: &[u16],
-) -> Result<String, AllocError>
-    ensures { IfOk result (λ s. AnsweredOf (room_for size) input.now p q list.now (string_bytes s)) }
-{
-    text_in(heap, size, input, &AnswersText { p, q, list })
 }

@@ -1,11 +1,9 @@
 //! The race report of a dump: the number of its events and a line for each racing pair, or the line of the first refusal.
 ghost use Rattle.std.specs.Prelude.{◌≡◌, ◌<◌, ◌≤◌, map, length, IfOk, Some, string_bytes};
-ghost use Rattle.reel.specs.Stored.{room_for};
 ghost use Rattle.session.specs.Races.{PartnersOf, pair};
-ghost use Rattle.report.specs.Reports.{race_line, RaceLines, PartnerLines, SweepLines, Reported, ReportOf};
+ghost use Rattle.report.specs.Reports.{race_line, RaceLines, PartnerLines, SweepLines, Reported};
 
 use crate::listing::EventsLine;
-use crate::texts::{SessionText, text_in};
 use reel::Reel;
 use session::session::Session;
 use std::alloc::{AllocError, Global};
@@ -101,7 +99,7 @@ fn partner_lines<R: Reel>(
 }
 
 /// The lines of a session's racing pairs, one later position after another.
-fn race_lines<R: Reel>(heap: Global, session: &Session<R>) -> Result<String, AllocError>
+pub(crate) fn race_lines<R: Reel>(heap: Global, session: &Session<R>) -> Result<String, AllocError>
     ensures { IfOk result (λ s. SweepLines session.now.trace (string_bytes s)) }
 {
     let mut text = String::new(heap);
@@ -121,23 +119,4 @@ pub fn race_report<R: Reel>(heap: Global, session: &Session<R>) -> Result<String
     let count = EventsLine(session.count());
     let lines = race_lines(heap, session)?;
     format!(in heap; "{count}{lines}")
-}
-
-/// The race report, as a text of a session.
-#[derive(Clone, Copy)]
-struct RaceReportText;
-
-impl SessionText for RaceReportText {
-    ghost Says = { λ _ t s. Reported t s };
-
-    fn text<R: Reel>(&self, heap: Global, session: &Session<R>) -> Result<String, AllocError> {
-        race_report(heap, session)
-    }
-}
-
-/// The race report of the records in `input`, or the line of the first that is refused, with `size` bytes to keep the events in.
-pub fn race_report_of(heap: Global, size: usize, input: &[u8]) -> Result<String, AllocError>
-    ensures { IfOk result (λ s. ReportOf (room_for size) input.now (string_bytes s)) }
-{
-    text_in(heap, size, input, &RaceReportText)
 }

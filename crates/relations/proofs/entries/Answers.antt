@@ -1,6 +1,6 @@
 -- The examples of entries.
 use Rattle.relations.proofs.entries.Goals as goal
-use Rattle.relations.proofs.Entering.{event_taken, full_refuses, recorded_as_read, stands_up_to_date, byte_entered}
+use Rattle.relations.proofs.Entering.{event_taken, full_refuses, recorded_as_read, stands_up_to_date}
 
 pub returns : goal.returns
 returns c = (
@@ -8,5 +8,4 @@ returns c = (
   full_refuses,
   recorded_as_read,
   stands_up_to_date,
-  byte_entered,
 )

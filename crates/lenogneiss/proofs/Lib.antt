@@ -1,0 +1,2 @@
+-- The lemmas.
+pub mod Decided
