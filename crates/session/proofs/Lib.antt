@@ -3,6 +3,7 @@ pub mod Entries
 pub mod Moved
 pub mod Loads
 pub mod Taking
+pub mod Lengths
 pub mod Loading
 pub mod Asked
 pub mod Racing

@@ -1,13 +1,19 @@
 -- The theorems on Enter and Load.
-use Rattle.std.proofs.Common.{◌≡◌, ℕ, ◌*◌, ◌%◌, ◌≤◌, List, [], ◌∷◌, ◌++◌, length, take, drop, Ok, Err, Result, sym, refl, ap, ◌∙◌, subst, ⊎_elim, arith, length-append, take_all, zero-add}
+use Rattle.std.proofs.Common.{◌≡◌, ℕ, ◌*◌, ◌/◌, ◌%◌, ◌≤◌, List, [], ◌∷◌, ◌++◌, length, take, drop, Ok, Err, Result, sym, refl, ap, ◌∙◌, subst, ⊎_elim, append-nil, arith, length-append, take_all, zero-add}
 use Rattle.std.specs.List.{flat_map}
 use Rattle.std.proofs.lemmas.Bool.{cases_eq, eq-eqb, ne_eqb}
 use Rattle.trace.specs.declared.event.Event.{Event}
 use Rattle.trace.specs.Records.{record_of}
 use Rattle.trace.specs.Traces.{Admits}
-use Rattle.answer.specs.Faults.{Refusal}
-use Rattle.session.specs.Entries.{Outcome, offered, then, enter, enter_all, load, record_count}
-use Rattle.session.specs.LoadTheorems.{AreBytes, CanFollow, AllCome, StopsAt, TakesAll, AddsAll, LoadStops, LoadMeasures, EnterAllStops, EnterTakes, EnterAdds, EnterKeeps}
+use Rattle.trace.specs.declared.record.RecordFault.TheVariants.{Length}
+use Rattle.reel.proofs.Lent.{lent_same}
+use Rattle.answer.specs.declared.fault.EntryFault.TheVariants.{Record as RecordFault}
+use Rattle.answer.specs.declared.fault.Layer.TheVariants.{Record}
+use Rattle.answer.specs.Faults.{Refusal, at_index}
+use Rattle.session.specs.States.{State}
+use Rattle.session.specs.Entries.{Outcome, offered, then, enter, enter_all, load, record_count, Takes}
+use Rattle.session.specs.LoadTheorems.{AreBytes, CanFollow, AllCome, StopsAt, TakesAll, AddsAll, LoadStops, LoadMeasures, LoadsWhole, EnterAllStops, EnterTakes, EnterAdds, EnterKeeps}
+use Rattle.session.proofs.Lengths.{from_not_one}
 use Rattle.session.proofs.Taking.{Ran, Stopped, comes, all_taken, split, follows, offered_taken, taken_next}
 
 -- records have eight bytes each
@@ -85,6 +91,21 @@ load_whole room t dump h = rw (eq-eqb (length dump % 8) 0 h) refl
 pub load_measures : LoadMeasures
 load_measures room t dump h = rw (ne_eqb (length dump % 8) 0 h) refl
 
+-- so a call that refuses the length leaves the session as it was
+pub length_refused : (s : State) (dump : List ℕ) → (length dump % 8 ≡ 0 → ⊥)
+    → Takes (load s.room s.trace dump) s dump (Err (at_index (length dump / 8) (RecordFault Length))) s
+length_refused s dump cut =
+    let is = load_measures s.room s.trace dump cut in
+    record {
+      answer = rw is refl;
+      events = rw is refl;
+      recorded = record { new = []; added = sym (append-nil s.trace); as_recorded = refl };
+      admitted = λ a. a;
+      room = refl;
+      lent = lent_same s.lent s.trace;
+      loan = refl;
+    }
+
 pub load_takes : TakesAll load
 load_takes room n t dump small a w = (
   λ is. ⊎_elim (λ h. (enter_all_takes room n t dump small a w).0 (ap (λ (o : Outcome ℕ). o.answer) (sym (load_whole room t dump h)) ∙ is))
@@ -99,6 +120,22 @@ load_adds room t dump new is follow =
 
 pub load_stops : LoadStops
 load_stops room t dump r small h is = rw (load_whole room t dump h) (stopped room t dump small r (ap (λ (o : Outcome ℕ). o.answer) (sym (load_whole room t dump h)) ∙ is))
+
+-- where no byte is left over, Load does not refuse with 1, and else it does
+pub loads_whole : LoadsWhole
+loads_whole room t dump = (
+  λ h n. whole_dump h (omega (arith, n.1)),
+  λ no. (
+    record { number = 1; layer = Record; index = length dump / 8 },
+    ap (λ (o : Outcome ℕ). o.answer) (load_measures room t dump (λ h. no (length dump / 8, omega arith))),
+    refl,
+  ),
+)
+  where
+    whole_dump : (r : Refusal) × ((load room t dump).answer ≡ Err r) × (r.number ≡ 1) → length dump % 8 ≡ 0 → ⊥
+    whole_dump h none =
+        let is = ap (λ (o : Outcome ℕ). o.answer) (sym (load_whole room t dump none)) ∙ h.1 in
+        from_not_one room (record_count dump) dump t 0 h.0 (omega arith) is h.2
 
 -- Enter offers one record
 module _ (room : ℕ) (t : List Event) where

@@ -61,6 +61,12 @@ abbrev pub LoadMeasures : Type 0
 LoadMeasures = (room : ℕ) (t : List Event) (dump : List ℕ) → (length dump % 8 ≡ 0 → ⊥)
     → load room t dump ≡ record { answer = Err (record { number = 1; layer = Record; index = length dump / 8 }); events = t }
 
+-- Load refuses with 1 just where the length is eight times no whole number
+abbrev pub LoadsWhole : Type 0
+LoadsWhole =
+    (room : ℕ) (t : List Event) (dump : List ℕ)
+    → ((r : Refusal) × ((load room t dump).answer ≡ Err r) × (r.number ≡ 1)) ↔ (((n : ℕ) × (length dump ≡ 8 * n)) → ⊥)
+
 -- where records are entered one after another, of any bytes, the first that is refused stops it
 abbrev pub EnterAllStops : Type 0
 EnterAllStops = (room : ℕ) (t : List Event) (bytes : List ℕ) (r : Refusal) → AreBytes bytes → (enter_all room t bytes).answer ≡ Err r

@@ -8,6 +8,7 @@ ghost use Rattle.reel.specs.Passing.{left_of};
 ghost use Rattle.session.specs.States.{State};
 ghost use Rattle.session.specs.Entries.{Stands, Takes, enter, load};
 
+use crate::length::{RECORD_SHIFT, is_whole};
 use crate::records::enter_records;
 use answer::fault::{EntryFault, EntryRefusal};
 use reel::events::Events;
@@ -15,7 +16,7 @@ use reel::{MOST_EVENTS, Reel};
 use std::marker::Model;
 use trace::event::Event;
 use trace::locks::LockTable;
-use trace::record::{RECORD, RecordFault, decode};
+use trace::record::{RecordFault, decode};
 
 mod lists;
 mod questions;
@@ -88,9 +89,9 @@ impl<R: Reel> Session<R> {
     pub fn load(&mut self, dump: &[u8]) -> Result<usize, EntryRefusal>
         ensures { let t = self.old.trace in Takes (load self.old.room t dump.now) self.old dump.now result self.new }
     {
-        if dump.len() % RECORD != 0 {
+        if !is_whole(dump.len()) {
             let fault = EntryFault::from(RecordFault::Length);
-            let index = dump.len() / RECORD;
+            let index = dump.len() >> RECORD_SHIFT;
             return Err(EntryRefusal { fault, index });
         }
         enter_records(self, dump)
