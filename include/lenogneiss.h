@@ -32,7 +32,7 @@ enum lenogneiss_answer {
     LENOGNEISS_LENGTH = 101,      /* its length is no multiple of 8 */
     LENOGNEISS_KIND = 102,        /* a record's kind is not 1 to 4 */
     LENOGNEISS_THREAD = 103,      /* a record's thread is above 15 */
-    LENOGNEISS_SUBJECT = 104,     /* a record's variable is above 1,023, or its lock above 63 */
+    LENOGNEISS_SUBJECT = 104,     /* a record's variable is above 1,023, or its lock above 199 */
     LENOGNEISS_LOCK_HELD = 105,   /* an acquire of a lock that is held, by its own thread too */
     LENOGNEISS_NOT_HOLDER = 106,  /* a release by a thread that does not hold the lock */
     LENOGNEISS_FULL = 107,        /* there are more than 1,024 records */
@@ -61,7 +61,7 @@ enum lenogneiss_answer {
  *
  * For all bytes and all numbers it is proved that the call returns, and that its answer is
  * the one that this list says. The caller owes that length bytes can be read at dump, that
- * they do not change during the call, and about 25 KiB of stack.
+ * they do not change during the call, and about 28 KiB of stack.
  *
  * The call keeps no state, allocates nothing and writes nothing but its stack, so it may run
  * in several threads at once, on the same dump too.

@@ -8,6 +8,7 @@ they must be. A trace is a list of (kind, thread, subject)."""
 import itertools, random, struct, subprocess, sys
 
 READ, WRITE, ACQUIRE, RELEASE = 1, 2, 3, 4
+LAST_LOCK = 199
 
 
 def refusal(trace, event):
@@ -77,12 +78,13 @@ def races(trace):
 
 def tiny(rng):
     """A random trace that the trace check admits; or one whose last event it refuses, with the report."""
-    threads, variables, locks = rng.choice([2, 2, 3]), rng.choice([1, 1, 2]), rng.choice([1, 1, 2])
+    threads, variables = rng.choice([2, 2, 3]), rng.choice([1, 1, 2])
+    locks = rng.choice([[0], [LAST_LOCK], [0, LAST_LOCK]])
     trace, length, thread = [], rng.choice([rng.randint(2, 10)] * 9 + [13]), 0
     while len(trace) < length:
         kind = rng.choice([READ, WRITE, ACQUIRE, RELEASE])
         thread = rng.randrange(threads) if rng.random() < 0.4 else thread
-        event = (kind, thread, rng.randrange(variables if kind <= WRITE else locks))
+        event = (kind, thread, rng.randrange(variables) if kind <= WRITE else rng.choice(locks))
         refused = refusal(trace, event)
         if not refused:
             trace.append(event)

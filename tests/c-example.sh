@@ -116,7 +116,7 @@ printf 'x' >>"$work/one"
 expect one 0 1 "$short"
 
 # limits of records, each just below and just above
-dump last 15w1023 14w1023 15a63 15z63
+dump last 15w1023 14w1023 15a199 15z199
 expect last 0 1 race
 dump kind 0w0 99q5000
 expect kind 0 1 "$kind"
@@ -124,8 +124,10 @@ dump thread 0w0 16w5000
 expect thread 0 1 "$thread"
 dump variable 0w0 1w1024
 expect variable 0 1 "$subject"
-dump lock 0w0 1z64
+dump lock 0w0 1z200
 expect lock 0 1 "$subject"
+dump taken 0w0 1a200
+expect taken 0 1 "$subject"
 
 # locks that are held, also by the thread itself, and locks that are not
 dump held 0w0 1w0 0a5 1a5

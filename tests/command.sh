@@ -180,8 +180,10 @@ dump thread 0w0 16w5000
 refused 'refused 3 record 1: thread 16 is not below 16' thread
 dump variable 0w0 1r1024
 refused 'refused 4 record 1: variable 1024 is not below 1024' variable
-dump lock 0w0 1z64
-refused 'refused 4 record 1: lock 64 is not below 64' lock
+dump lock 0w0 1z200
+refused 'refused 4 record 1: lock 200 is not below 200' lock
+dump last 0w0 1a199
+expect "$work/last" 0 'events 2' '' report
 dump held 0w0 1w0 0a5 1a5
 refused 'refused 5 record 3: acquires lock 5, which is held' held
 dump other 0w0 1w0 0a5 1z5

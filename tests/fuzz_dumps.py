@@ -4,6 +4,7 @@ Nothing here knows what a dump should be answered with."""
 import collections, random, struct
 
 READ, WRITE, ACQUIRE, RELEASE = 1, 2, 3, 4
+LOCKS = 200
 MEGABYTE = 1 << 20
 
 
@@ -27,7 +28,7 @@ class Shape:
     def __init__(self, rng, sparse=False):
         few = rng.random() < 0.7
         self.threads = rng.sample(range(16), rng.randint(1, 4) if few else rng.randint(1, 16))
-        self.locks = rng.sample(range(64), rng.randint(1, 3) if few else rng.randint(1, 64))
+        self.locks = rng.sample(range(LOCKS), rng.randint(1, 3) if few else rng.randint(1, LOCKS))
         many = rng.randint(200, 1024) if sparse else rng.randint(1, 40)
         self.variables = rng.sample(range(1024), rng.randint(1, 4) if few and not sparse else many)
         self.switch = rng.choice([0.05, 0.2, 0.5, 1.0])
@@ -108,7 +109,8 @@ def random_records(rng, _):
         wild = rng.random() < loose
         kind = rng.choice([0, 1, 2, 3, 4, 5, 6, 128, 255]) if wild else rng.choice([1, 2, 3])
         thread = rng.choice([0, 1, 15, 16, 17, 31, 128, 255]) if wild else rng.choice([0, 7, 15])
-        past = [0, 1, 63, 64, 65, 255, 256, 319, 1023, 1024, 1025, 1087, 32768, 65535]
+        locks = [64, LOCKS - 1, LOCKS, LOCKS + 1, 255 + LOCKS]
+        past = [0, 1, 255, 256, 1023, 1024, 1025, 1023 + LOCKS, 32768, 65535] + locks
         subject = rng.choice(past) if wild else rng.choice([0, 1, 255, 256, 1022, 1023]) if kind < 3 else n
         out.append(record(kind, thread, subject, rng.getrandbits(32)))
     return b"".join(out)
@@ -136,7 +138,8 @@ def one_field(rng, _):
     elif what == 1:
         bytes_[at + 1] = rng.choice([0, 14, 15, 16, 17, 255])
     else:
-        bytes_[at + 2:at + 4] = struct.pack("<H", rng.choice([0, 63, 64, 319, 1023, 1024, 1087, 65535]))
+        edges = [0, 64, LOCKS - 1, LOCKS, 255 + LOCKS, 1023, 1024, 1023 + LOCKS, 65535]
+        bytes_[at + 2:at + 4] = struct.pack("<H", rng.choice(edges))
     return bytes(bytes_)
 
 
@@ -177,8 +180,8 @@ def swapped(rng, _):
 def bad_lock(rng, _):
     """An event that the trace check refuses, put somewhere into a trace, with one more lock in play."""
     shape = Shape(rng)
-    shape.locks = shape.locks[:60]
-    records, lock = trace(rng, rng.randint(0, 60), shape), rng.choice([n for n in range(64) if n not in shape.locks])
+    shape.locks = shape.locks[:LOCKS - 1]
+    records, lock = trace(rng, rng.randint(0, 60), shape), rng.choice([n for n in range(LOCKS) if n not in shape.locks])
     one, other = rng.sample(range(16), 2)
     a, z = (lambda t: record(ACQUIRE, t, lock, 1)), (lambda t: record(RELEASE, t, lock, 2))
     deeds = rng.choice([[a(one), a(one)], [a(one), a(other)], [z(one)], [a(one), z(other)], [a(one), z(one), z(one)],
@@ -208,11 +211,11 @@ def over(rng, capacity):
 def over_wrong(rng, capacity):
     """One record too many that is wrong in itself, which is found first; perhaps with more after it."""
     records = trace(rng, capacity - 1, Shape(rng, sparse=True))
-    free = set(range(64)) - {r[2] for r in records if r[0] >= ACQUIRE} or {0}
+    free = set(range(LOCKS)) - {r[2] for r in records if r[0] >= ACQUIRE} or {0}
     lock = rng.choice(sorted(free))
     records.append(record(ACQUIRE, 3, lock, 0))
     last = rng.choice([record(READ, 0, 0, 0)[:rng.randint(1, 7)], record(0, 0, 0, 0), record(READ, 16, 0, 0),
-                       record(WRITE, 0, 1024, 0), record(ACQUIRE, 0, 64, 0), record(ACQUIRE, 3, lock, 0),
+                       record(WRITE, 0, 1024, 0), record(ACQUIRE, 0, LOCKS, 0), record(ACQUIRE, 3, lock, 0),
                        record(RELEASE, 4, lock, 0), record(RELEASE, 3, lock, 0)])
     tail = rng.randbytes(rng.randint(0, 40)) if len(last) == 8 else b""
     return b"".join(records) + last + tail

@@ -19,7 +19,7 @@
 #include <stdlib.h>
 #include <string.h>
 
-enum { RECORD = 8, THREADS = 16, VARIABLES = 1024, LOCKS = 64 };
+enum { RECORD = 8, THREADS = 16, VARIABLES = 1024, LOCKS = 200 };
 enum { HOST = 4096, BOARD = 1024, MOST = HOST };
 enum { READ = 1, WRITE = 2, ACQUIRE = 3, RELEASE = 4 };
 enum { NONE = -1 };

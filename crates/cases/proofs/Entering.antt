@@ -1,7 +1,8 @@
 -- What becomes of the records of the examples.
-use Rattle.std.proofs.Common.{◌≡◌, [], ◌∷◌, ◌++◌, length, refl, ◌∙◌, length-append}
+use Rattle.std.proofs.Common.{◌≡◌, ◌-◌, [], ◌∷◌, ◌++◌, length, refl, ◌∙◌, length-append}
 use native.Mathlib.Decide.{dec_lt}
 use Rattle.trace.proofs.Records.{record_means}
+use Rattle.trace.specs.Limits.{locks}
 use Rattle.trace.specs.declared.kind.Kind.TheVariants.{Read, Write, Acquire, Release}
 use Rattle.std.proofs.lemmas.Bool.{lt-ltb}
 use Rattle.answer.specs.declared.fault.PairFault.TheVariants.{NoEvent, Order}
@@ -24,7 +25,7 @@ last_subjects room enough =
     let h = lt-ltb 0 room enough in (
       rw (record_means (event Read 0 1023 tt tt), h) refl,
       rw (record_means (event Write 0 1023 tt tt), h) refl,
-      rw (record_means (event Acquire 0 63 tt tt), h) refl,
+      rw (record_means (event Acquire 0 (locks - 1) tt tt), h) refl,
     )
 
 pub subjects_refused : SubjectsRefused

@@ -1,9 +1,10 @@
 -- What a session answers on small traces and at its limits, each by the definitions that the contracts of its calls cite. Where a call fills a
 -- buffer, also what the whole buffer then holds.
-use Rattle.std.specs.Prelude.{◌≡◌, ℕ, ◌/◌, ◌%◌, ◌<◌, ◌≤◌, Bool, true, false, List, [], ◌∷◌, ◌++◌, length, drop, Ok, Err}
+use Rattle.std.specs.Prelude.{◌≡◌, ℕ, ◌-◌, ◌/◌, ◌%◌, ◌<◌, ◌≤◌, Bool, true, false, List, [], ◌∷◌, ◌++◌, length, drop, Ok, Err}
 use Rattle.trace.specs.declared.event.Event.{Event}
 use Rattle.trace.specs.declared.kind.Kind.{Kind}
 use Rattle.trace.specs.declared.kind.Kind.TheVariants.{Read, Write, Acquire, Release}
+use Rattle.trace.specs.Limits.{locks}
 use Rattle.trace.specs.Records.{number, record_of}
 use Rattle.trace.specs.Traces.{Admits, Allowed, holders_after}
 use Rattle.reel.specs.Boards.{board_room}
@@ -141,19 +142,19 @@ LocksRefused =
 abbrev pub PairsRefused : Type 0
 PairsRefused = JudgeRefuses three_accesses 0 3 8 × JudgeRefuses three_accesses 2 2 9
 
--- the records of variable 1,023 and lock 63 are taken
+-- the records of variable 1,023 and of the last lock, 199, are taken
 abbrev pub LastSubjects : Type 0
 LastSubjects =
     (room : ℕ) → 0 < room
     → (enter room [] (bytes_of Read 1023) ≡ taken [] (event Read 0 1023 tt tt)) × (enter room [] (bytes_of Write 1023) ≡ taken [] (event Write 0 1023 tt tt))
-    × (enter room [] (bytes_of Acquire 63) ≡ taken [] (event Acquire 0 63 tt tt))
+    × (enter room [] (bytes_of Acquire (locks - 1)) ≡ taken [] (event Acquire 0 (locks - 1) tt tt))
 
--- those of variable 1,024 and lock 64 are refused with 4
+-- those of variable 1,024 and lock 200 are refused with 4
 abbrev pub SubjectsRefused : Type 0
 SubjectsRefused =
     (room : ℕ) (t : List Event)
     → (enter room t (bytes_of Read 1024) ≡ refused t 4 Record 0) × (enter room t (bytes_of Write 1024) ≡ refused t 4 Record 0)
-    × (enter room t (bytes_of Acquire 64) ≡ refused t 4 Record 0) × (enter room t (bytes_of Release 64) ≡ refused t 4 Record 0)
+    × (enter room t (bytes_of Acquire locks) ≡ refused t 4 Record 0) × (enter room t (bytes_of Release locks) ≡ refused t 4 Record 0)
 
 -- a dump of no bytes has no records, and one of 17 bytes is refused with 1, at the index after its two whole records
 abbrev pub DumpLengths : Type 0

@@ -9,6 +9,7 @@ use std::process::Abort;
 use std::test::Fail;
 use trace::fault::Fault;
 use trace::kind::Kind;
+use trace::limits::LOCKS;
 
 mod reports;
 mod sessions;
@@ -174,12 +175,21 @@ fn enters_at_the_limits<R: Reel + Drop>(rt: &impl Abort, reel: R) -> Result<(), 
     assert_eq!(rt; refused(session.enter(&record_of("0a0")?)), held);
     assert_eq!(rt; refused(session.enter(&record(Kind::Read, 0, 1023))), None);
     assert_eq!(rt; refused(session.enter(&record(Kind::Write, 0, 1023))), None);
-    assert_eq!(rt; refused(session.enter(&record(Kind::Acquire, 0, 63))), None);
+    assert_eq!(rt;
+        refused(session.enter(&record(Kind::Acquire, 0, LOCKS - 1))),
+        None
+    );
     let past = Some((4, Layer::Record, 0));
     assert_eq!(rt; refused(session.enter(&record(Kind::Read, 0, 1024))), past);
     assert_eq!(rt; refused(session.enter(&record(Kind::Write, 0, 1024))), past);
-    assert_eq!(rt; refused(session.enter(&record(Kind::Acquire, 0, 64))), past);
-    assert_eq!(rt; refused(session.enter(&record(Kind::Release, 0, 64))), past);
+    assert_eq!(rt;
+        refused(session.enter(&record(Kind::Acquire, 0, LOCKS))),
+        past
+    );
+    assert_eq!(rt;
+        refused(session.enter(&record(Kind::Release, 0, LOCKS))),
+        past
+    );
     assert_eq!(rt; session.count(), 4);
     Ok(())
 }

@@ -8,6 +8,7 @@ use crate::tally::Tally;
 use std::alloc::Global;
 use trace::event::Event;
 use trace::kind::Kind;
+use trace::limits::LOCKS;
 
 // numbers of its own, so that what is printed stays the same
 /// A linear congruential generator, the shape of what it draws, and the thread that is at work.
@@ -50,13 +51,13 @@ impl Generator {
         };
         let thread = self.thread();
         let variable = self.below(self.shape.variables);
-        event(kind, thread, variable)
+        event(kind, thread, u16::from(variable))
     }
 
-    /// The release of some lock by its holder, or where it is free, an acquire.
+    /// The release of one of the last locks by its holder, or where it is free, an acquire.
     fn turn(&mut self, trace: &Trace) -> anyhow::Result<Event> {
-        let lock = self.below(self.shape.locks);
-        match holder_of(trace.steps(), u16::from(lock)) {
+        let lock = (LOCKS - 1).saturating_sub(u16::from(self.below(self.shape.locks)));
+        match holder_of(trace.steps(), lock) {
             Some(holder) => event(Kind::Release, holder, lock),
             None => event(Kind::Acquire, self.thread(), lock),
         }

@@ -32,15 +32,13 @@ impl Shape {
             .iter()
             .flat_map(|kind| (0..self.threads).map(move |thread| (*kind, thread)))
             .flat_map(|(kind, thread)| {
-                (0..self.subjects(kind)).map(move |subject| event(kind, thread, subject))
+                (0..self.subjects(kind)).map(move |subject| event(kind, thread, u16::from(subject)))
             })
             .try_collect(heap)
     }
 }
 
 /// The event of a thread on a subject.
-pub(crate) fn event(kind: Kind, thread: u8, subject: u8) -> anyhow::Result<Event> {
-    event_of(kind, thread, u16::from(subject), 0).map_err(|_| anyhow!(
-        "the shape passes the limits of events"
-    ))
+pub(crate) fn event(kind: Kind, thread: u8, subject: u16) -> anyhow::Result<Event> {
+    event_of(kind, thread, subject, 0).map_err(|_| anyhow!("the shape passes the limits of events"))
 }

@@ -6,6 +6,7 @@ use Rattle.std.proofs.lemmas.List.{length-set, get_or-set_same, get_or-set_other
 use Rattle.trace.specs.declared.event.Event.{Event}
 use Rattle.trace.specs.declared.kind.Kind.{Kind}
 use Rattle.trace.specs.declared.kind.Kind.TheVariants.{Read, Write, Acquire, Release}
+use Rattle.trace.specs.Limits.{locks}
 use Rattle.trace.specs.Traces.{ReleaseOf}
 use Rattle.trace.specs.Lookups.{fits_here, release_of}
 use Rattle.trace.specs.Cuts.{In}
@@ -52,11 +53,11 @@ module _ (t : List Event) (bs : List ℕ) where
   not_acquired {k} {e} is none l a =
       none (ap (λ (f : Event). f.kind) (at_same t k e a.event (sym is) a.is) ∙ a.is_acquire) (ap (fits_here (below bs k)) is ∙ a.inside)
 
-  -- the lock of an acquire in the cut is one of the 64
-  lock_few : (l a : ℕ) → AcquireIn t (held t bs) l a → l < 64
+  -- the lock of an acquire in the cut is within its limit
+  lock_few : (l a : ℕ) → AcquireIn t (held t bs) l a → l < locks
   lock_few l a is =
       let e = is.event in
-      let low : e.subject < 64 = rw is.is_acquire at e.known_subject in
+      let low : e.subject < locks = rw is.is_acquire at e.known_subject in
       omega (arith, is.its_lock)
 
   -- an acquire at one position is of one lock
@@ -66,10 +67,10 @@ module _ (t : List Event) (bs : List ℕ) where
 
   -- what the table of ends knows at k: the acquires below k stand before the ends of their locks
   pub record EndsSoFar (k : ℕ) (ends : List ℕ) : Type 0 where
-    pub whole : length ends ≡ 64
+    pub whole : length ends ≡ locks
     pub past : (l a : ℕ) → a < k → AcquireIn t (held t bs) l a → a < get_or ends l 0
 
-  pub ends_start : EndsSoFar 0 (replicate 64 0)
+  pub ends_start : EndsSoFar 0 (replicate locks 0)
   ends_start = record { whole = refl; past = λ l a b. absurd (omega arith) }
 
   pub ends_stay : (k : ℕ) (ends : List ℕ) → ((l : ℕ) → AcquireIn t (held t bs) l k → ⊥) → EndsSoFar k ends → EndsSoFar (k + 1) ends
@@ -138,11 +139,11 @@ module _ (t : List Event) (bs : List ℕ) where
       from (inl p) (inl q) = absurd (omega arith)
       from (inl p) (inr q) = absurd (omega (arith, q.0))
 
-  -- one lock more, and all 64
+  -- one lock more, and all
   pub locks_more : (l : ℕ) → ((m : ℕ) → m < l → LockSettled m) → LockSettled l → (m : ℕ) → m < l + 1 → LockSettled m
   locks_more l old new m b = ⊎_elim (λ q. rw q new) (λ q. old m (omega arith)) (cases_eq m l)
 
-  pub locks_all : (n : ℕ) → 64 ≤ n → ((m : ℕ) → m < n → LockSettled m) → Misses LockWants t bs None
+  pub locks_all : (n : ℕ) → locks ≤ n → ((m : ℕ) → m < n → LockSettled m) → Misses LockWants t bs None
   locks_all n b settled = record { outside = tt; exact = λ w h. settled h.lock (few h) h.first h.second w h.first_in h.second_in h.order h.release }
     where
       few : {w : ℕ} (h : LockWants t (held t bs) w) → h.lock < n

@@ -4,6 +4,7 @@ use Rattle.std.specs.List.{slice_get}
 use Rattle.trace.specs.declared.event.Event.{Event}
 use Rattle.trace.specs.declared.kind.Kind.{Kind}
 use Rattle.trace.specs.declared.kind.Kind.TheVariants.{Read, Write, Acquire, Release}
+use Rattle.trace.specs.Limits.{locks}
 use Rattle.trace.specs.Lookups.{fits_here}
 use Rattle.trace.specs.Traces.{At, LastWrite, ReleaseOf}
 use Rattle.trace.specs.Cuts.{Positions, In}
@@ -40,7 +41,7 @@ pub record AcquireIn (t : List Event) (c : Positions) (l a : ℕ) : Type 0 where
 
 -- for each lock, its acquires in the cut below the bounds stand before the position that the table has for it
 pub record PastAcquires (t : List Event) (bounds ends : List ℕ) : Type 0 where
-  pub whole : length ends ≡ 64
+  pub whole : length ends ≡ locks
   pub past : (l a : ℕ) → AcquireIn t (held t bounds) l a → a < slice_index ends l
 
 -- of two acquires of a lock in the cut the first wants its release

@@ -1,8 +1,6 @@
 -- The examples of the trace check, the lookups, the table and the reel.
-use Rattle.std.proofs.Common.{◌≡◌, ℕ, ◌<◌, ◌≤◌, [], ◌∷◌, replicate, slice_index_or, Some, None, Option, Ok, Result, sym, refl, ap, ◌∙◌, ⊎_elim, arith}
+use Rattle.std.proofs.Common.{◌≡◌, ℕ, [], ◌∷◌, slice_index_or, Some, None, Option, Ok, Result, sym, refl, ap, ◌∙◌, arith}
 use Rattle.std.proofs.lemmas.Option.{none-some}
-use Rattle.std.proofs.lemmas.List.{get_or-replicate, get_or_past}
-use Rattle.std.proofs.lemmas.Bool.{cases_lt}
 use Rattle.trace.specs.declared.kind.Kind.TheVariants.{Acquire}
 use Rattle.trace.specs.declared.event.Event.{Event}
 use Rattle.trace.specs.declared.locks.LockTable.{LockTable}
@@ -11,7 +9,7 @@ use Rattle.trace.specs.declared.locks.TraceFault.TheVariants.{AlreadyHeld}
 use Rattle.trace.specs.Lookups.{Finds}
 use Rattle.trace.specs.Locks.{Tells, Turned}
 use Rattle.trace.proofs.Lookups.{previous_found, last_write_found, release_found}
-use Rattle.trace.proofs.LockTables.{turned_acquire, refused}
+use Rattle.trace.proofs.LockTables.{starts_empty, turned_acquire, refused}
 use Rattle.cases.specs.Examples.{event, sections_between, read_between}
 use Rattle.relations.specs.Traces.{free_table, held_by, NoSecondHolder, PreviousLatest, LastWriteOfVariable, ReleaseOfThread, TableChanges, HeldTurnedAway, TakenWithRoom}
 
@@ -34,8 +32,7 @@ release_of_thread = found_alone _ _ (release_found sections_between 1 (event Acq
 
 -- the free table says of each lock that no thread holds it
 pub free_tells : Tells free_table []
-free_tells l =
-    ⊎_elim (λ (h : l < 64). get_or-replicate 64 l None None h) (λ (h : 64 ≤ l). get_or_past (replicate 64 None) l None h) (cases_lt l 64)
+free_tells = starts_empty
 
 -- a free lock is acquired
 acquired : (e : Event) → e.kind ≡ Acquire → e.subject ≡ 0 → let r : Result (Unit {0}) TraceFault = Ok tt in Turned free_table e r (held_by e.thread)

@@ -1,9 +1,10 @@
 -- The examples of rules.
-use Rattle.std.proofs.Common.{◌≡◌, ℕ, zero, suc, ◌<◌, false, List, [], ◌∷◌, replicate, slice_index, sym, refl, ◌∙◌, arith, lit<}
+use Rattle.std.proofs.Common.{◌≡◌, ℕ, zero, suc, ◌<◌, false, List, [], ◌∷◌, replicate, slice_index, slice_set, sym, refl, ◌∙◌, arith, lit<}
 use Rattle.std.proofs.lemmas.Option.{none-some}
 use Rattle.std.proofs.lemmas.Bool.{false≢true, true≢false}
 use Rattle.trace.specs.declared.event.Event.{Event}
 use Rattle.trace.specs.declared.kind.Kind.TheVariants.{Acquire}
+use Rattle.trace.specs.Limits.{locks}
 use Rattle.trace.specs.Cuts.{Positions, SyncWants}
 use Rattle.trace.specs.Cuts.SyncWants.{last_write, earlier_release}
 use Rattle.trace.proofs.Growing.{empty_cut}
@@ -82,7 +83,7 @@ halves_of_sync = (
 )
 
 -- an acquire in the cut is the one at 0 or at 3
-passed : (l a : ℕ) → AcquireIn writes_locked (held writes_locked (bounds 1 4)) l a → a < slice_index (4 ∷ replicate 63 0) l
+passed : (l a : ℕ) → AcquireIn writes_locked (held writes_locked (bounds 1 4)) l a → a < slice_index (slice_set (replicate locks 0) 0 4) l
 passed l zero h = let i = h.is in let e = h.its_lock in let z : l ≡ 0 = grind arith in rw z (lit< tt)
 passed l (suc (suc (suc zero))) h = let i = h.is in let e = h.its_lock in let z : l ≡ 0 = grind arith in rw z (lit< tt)
 passed l (suc zero) h = absurd (false≢true h.inside)

@@ -1,5 +1,6 @@
 -- Rules, and what a rule is asked about a cut.
-use Rattle.std.specs.Prelude.{◌≡◌, ℕ, ◌||◌, List, ◌∷◌, Some, None, replicate, ◌==◌}
+use Rattle.std.specs.Prelude.{◌≡◌, ℕ, ◌||◌, List, ◌∷◌, Some, None, replicate, slice_set, ◌==◌}
+use Rattle.trace.specs.Limits.{locks}
 use Rattle.trace.specs.Cuts.{Positions, Laws, SyncWants, HappensBeforeWants, SchedulableWants}
 use Rattle.predict.specs.Held.{NamesOutside, Answers, Misses}
 use Rattle.predict.specs.Parts.{ReadWants, LockWants, PastAcquires}
@@ -60,4 +61,4 @@ MissedOutside =
 -- the acquires of lock 0 stand before position 4; wrong: a table by which there is none
 abbrev pub AcquiresPassed : Type 0
 AcquiresPassed =
-    PastAcquires writes_locked (bounds 1 4) (4 ∷ replicate 63 0) × (PastAcquires writes_locked (bounds 1 4) (replicate 64 0) → ⊥)
+    PastAcquires writes_locked (bounds 1 4) (slice_set (replicate locks 0) 0 4) × (PastAcquires writes_locked (bounds 1 4) (replicate locks 0) → ⊥)

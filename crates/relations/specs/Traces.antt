@@ -1,11 +1,12 @@
 -- The trace check, the lookups in a trace, the table of lock holders and the taking of an event into a reel.
-use Rattle.std.specs.Prelude.{ℕ, List, [], ◌∷◌, replicate, Some, None, Ok, Err, Result}
+use Rattle.std.specs.Prelude.{ℕ, List, [], ◌∷◌, replicate, slice_set, Some, None, Ok, Err, Result}
 use Rattle.std.proofs.Common.{refl}
 use Rattle.trace.specs.declared.event.Event.{Event}
 use Rattle.trace.specs.declared.kind.Kind.TheVariants.{Write, Acquire}
 use Rattle.trace.specs.declared.locks.LockTable.{LockTable}
 use Rattle.trace.specs.declared.locks.TraceFault.{TraceFault}
 use Rattle.trace.specs.declared.locks.TraceFault.TheVariants.{AlreadyHeld}
+use Rattle.trace.specs.Limits.{locks}
 use Rattle.trace.specs.Locks.{Tells, Turned}
 use Rattle.trace.specs.Traces.{Admits, Previous, LastWrite, ReleaseOf}
 use Rattle.reel.specs.declared.ReelFault.{ReelFault}
@@ -38,10 +39,10 @@ ReleaseOfThread = ReleaseOf sections_between 1 2 × (ReleaseOf sections_between 
 
 -- the table in which no lock is held, and the one in which a thread holds lock 0
 abbrev pub free_table : LockTable
-free_table = record { holders = replicate 64 None; whole = refl }
+free_table = record { holders = replicate locks None; whole = refl }
 
 abbrev pub held_by : ℕ → LockTable
-held_by thread = record { holders = Some thread ∷ replicate 63 None; whole = refl }
+held_by thread = record { holders = slice_set (replicate locks None) 0 (Some thread); whole = refl }
 
 -- the two tables before and after an acquire; wrong: a table that says the same after it as before
 abbrev pub TableChanges : Type 0

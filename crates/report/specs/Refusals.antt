@@ -1,7 +1,7 @@
 -- Why a record or a question is refused, in words.
 use Rattle.std.specs.Prelude.{ℕ, ◌+◌, ◌*◌, cond, List, ◌++◌, length, take, drop, Some, None, Option, codes, decimal, ◌==◌, slice_index}
 use Rattle.trace.specs.declared.kind.Kind.{Kind}
-use Rattle.trace.specs.Limits.{threads, accesses}
+use Rattle.trace.specs.Limits.{threads, locks, accesses}
 use Rattle.trace.specs.Records.{kind_of}
 use Rattle.answer.specs.Faults.{Refusal}
 
@@ -15,10 +15,10 @@ subject_in bytes = slice_index bytes 2 + slice_index bytes 3 * 256
 
 -- a variable or a lock that is past the last one, by the kind of its event
 abbrev pub past_limit : Option Kind → ℕ → List ℕ
-past_limit None subject = codes "lock " ++ (decimal subject ++ (codes " is not below " ++ decimal 64))
+past_limit None subject = codes "lock " ++ (decimal subject ++ (codes " is not below " ++ decimal locks))
 past_limit (Some kind) subject =
     cond (accesses kind) (codes "variable " ++ (decimal subject ++ (codes " is not below " ++ decimal 1024)))
-    (codes "lock " ++ (decimal subject ++ (codes " is not below " ++ decimal 64)))
+    (codes "lock " ++ (decimal subject ++ (codes " is not below " ++ decimal locks)))
 
 -- why a record is refused with a number, where there is room for so many events
 abbrev pub record_words : ℕ → List ℕ → ℕ → List ℕ

@@ -10,6 +10,7 @@ use std::process::Abort;
 use std::test::Fail;
 use trace::fault::Fault;
 use trace::kind::Kind;
+use trace::limits::LOCKS;
 
 // `cases` has this and the two below too: what is under cfg(test) is not seen from another crate
 fn record(kind: Kind, thread: u8, subject: u16) -> [u8; 8] {
@@ -43,9 +44,12 @@ fn enters<R: Reel + Drop>(rt: &impl Abort, reel: R) -> Result<(), Fail> {
         refused(session.enter(&record(Kind::Read, 15, 1024))),
         Some((4, Layer::Record, 0))
     );
-    assert_eq!(rt; refused(session.enter(&record(Kind::Acquire, 2, 63))), None);
     assert_eq!(rt;
-        refused(session.enter(&record(Kind::Acquire, 2, 64))),
+        refused(session.enter(&record(Kind::Acquire, 2, LOCKS - 1))),
+        None
+    );
+    assert_eq!(rt;
+        refused(session.enter(&record(Kind::Acquire, 2, LOCKS))),
         Some((4, Layer::Record, 0))
     );
     assert_eq!(rt; session.count(), 3);

@@ -1,16 +1,22 @@
 -- What becomes of the table of lock holders with one event.
-use Rattle.std.proofs.Common.{◌≡◌, ℕ, ◌<◌, true, false, cond, eqb, List, [], ◌∷◌, length, get_or, set, Some, None, Option, Ok, Err, sym, refl, ap, ◌∙◌, ⊎_elim, arith, get_or-set_other, get_or-set_same}
-use Rattle.std.proofs.lemmas.Bool.{cases_eq, eq-eqb, ne_eqb}
+use Rattle.std.proofs.Common.{◌≡◌, ℕ, ◌<◌, ◌≤◌, true, false, cond, eqb, List, [], ◌∷◌, length, get_or, set, replicate, Some, None, Option, Ok, Err, sym, refl, ap, ◌∙◌, ⊎_elim, arith, get_or-set_other, get_or-set_same}
+use Rattle.std.proofs.lemmas.Bool.{cases_eq, cases_lt, eq-eqb, ne_eqb}
+use Rattle.std.proofs.lemmas.List.{get_or-replicate, get_or_past}
 use Rattle.trace.specs.declared.event.Event.{Event}
 use Rattle.trace.specs.declared.kind.Kind.{Kind}
 use Rattle.trace.specs.declared.kind.Kind.TheVariants.{Read, Write, Acquire, Release}
 use Rattle.trace.specs.declared.locks.LockTable.{LockTable}
 use Rattle.trace.specs.declared.locks.TraceFault.{TraceFault}
-use Rattle.trace.specs.Limits.{accesses}
+use Rattle.trace.specs.Limits.{accesses, locks}
 use Rattle.trace.specs.Faults.{trace_number}
 use Rattle.trace.specs.Traces.{all_free, after_event, holders_after, trace_refusal}
 use Rattle.trace.specs.Locks.{holders, Turned}
 use Rattle.trace.proofs.Holders.{after_append, same_refusal, same_turn}
+
+-- a table that starts with nothing has nothing of any lock
+pub starts_empty : (l : ℕ) → get_or {A = Option ℕ} (replicate locks None) l None ≡ None
+starts_empty l =
+    ⊎_elim (λ (h : l < locks). get_or-replicate locks l None None h) (λ (h : locks ≤ l). get_or_past (replicate locks None) l None h) (cases_lt l locks)
 
 -- one holder written
 pub put_holder : (hs : List (Option ℕ)) (s : ℕ) (x : Option ℕ) (l : ℕ) → s < length hs

@@ -7,6 +7,10 @@ use Rattle.trace.specs.declared.kind.Kind.TheVariants.{Read, Write, Acquire, Rel
 abbrev pub threads : ℕ
 threads = 16
 
+-- and locks below this
+abbrev pub locks : ℕ
+locks = 200
+
 -- whether an event of a kind touches a variable; else it touches a lock
 abbrev pub accesses : Kind → Bool
 accesses Read = true
@@ -14,6 +18,6 @@ accesses Write = true
 accesses Acquire = false
 accesses Release = false
 
--- the subject of an event of a kind is below this: there are 1,024 variables and 64 locks
+-- the subject of an event of a kind is below this: there are 1,024 variables
 abbrev pub subjects : Kind → ℕ
-subjects kind = cond (accesses kind) 1024 64
+subjects kind = cond (accesses kind) 1024 locks

@@ -2,7 +2,7 @@
 ghost use Rattle.std.specs.Prelude.{◌≡◌, length};
 ghost use Rattle.trace.specs.declared.limits.TheConstants.{LOCKS};
 
-use crate::limits::LOCKS;
+use crate::limits::LOCK_COUNT;
 
 mod methods;
 
@@ -19,6 +19,6 @@ pub enum TraceFault {
 #[derive(Clone, Copy)]
 pub struct LockTable {
     // an array, since a board has no heap
-    holders: [Option<u8>; LOCKS as usize],
+    holders: [Option<u8>; LOCK_COUNT],
     ghost whole: { length holders ≡ LOCKS },
 }

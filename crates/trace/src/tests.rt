@@ -1,6 +1,7 @@
 //! Records on a few examples.
 use crate::fault::Fault;
 use crate::kind::Kind;
+use crate::limits::LOCKS;
 use crate::record::{decode, encode};
 use std::test::Fail;
 
@@ -11,12 +12,13 @@ fn refusal(bytes: &[u8]) -> Option<u8> {
 
 #[test]
 fn records(rt: HostRuntime) -> Result<(), Fail> {
-    let record = [4, 15, 63, 0, 0xff, 0, 0, 0x80];
+    let [low, high] = (LOCKS - 1).to_le_bytes();
+    let record = [4, 15, low, high, 0xff, 0, 0, 0x80];
     let event = decode(&record)?;
     assert_eq!(rt; event.kind, Kind::Release);
     assert_eq!(rt;
         (event.thread, event.subject, event.site),
-        (15, 63, 0x8000_00ff)
+        (15, LOCKS - 1, 0x8000_00ff)
     );
     assert_eq!(rt; encode(&event), record);
     assert_eq!(rt; refusal(&[1, 0, 0xff, 3, 0, 0, 0, 0]), None);
@@ -24,7 +26,9 @@ fn records(rt: HostRuntime) -> Result<(), Fail> {
     assert_eq!(rt; refusal(&[1; 9]), Some(1));
     assert_eq!(rt; refusal(&[5, 16, 0xff, 0xff, 0, 0, 0, 0]), Some(2));
     assert_eq!(rt; refusal(&[1, 16, 0xff, 0xff, 0, 0, 0, 0]), Some(3));
-    assert_eq!(rt; refusal(&[3, 15, 64, 0, 0, 0, 0, 0]), Some(4));
+    let [low, high] = LOCKS.to_le_bytes();
+    assert_eq!(rt; refusal(&[3, 15, low, high, 0, 0, 0, 0]), Some(4));
+    assert_eq!(rt; refusal(&[4, 15, low, high, 0, 0, 0, 0]), Some(4));
     assert_eq!(rt; refusal(&[2, 15, 0, 4, 0, 0, 0, 0]), Some(4));
     Ok(())
 }

@@ -6,7 +6,7 @@ ghost use Rattle.trace.specs.Locks.{Tells, Turned};
 use crate::event::Event;
 use crate::fault::Fault;
 use crate::kind::Kind;
-use crate::limits::LOCKS;
+use crate::limits::LOCK_COUNT;
 use crate::locks::{LockTable, TraceFault};
 
 impl Fault for TraceFault {
@@ -26,7 +26,7 @@ impl LockTable {
         ensures { Tells result [] }
     {
         LockTable {
-            holders: [None; LOCKS as usize],
+            holders: [None; LOCK_COUNT],
         }
     }
 
