@@ -103,6 +103,7 @@ def main():
         stream += struct.pack("<Q", len(dump)) + dump
         racing = [] if refused else races(trace)
         lines = ["events %d" % len(trace)] + ["race %d %d sites %d %d" % (p, q, 7 + p, 7 + q) for p, q in racing]
+        lines += ["pairs %d" % len(racing)]
         reports.append(refused or "\n".join(lines))
         for pair in [] if refused else conflicts(trace):
             cases += struct.pack("<Q", len(dump)) + dump + struct.pack("<QQ", *pair)

@@ -96,9 +96,11 @@ expect $snapshot 0 "$report" '' report
 expect $snapshot 0 "$report" '' report -
 expect <(cat $snapshot) 0 "$report" '' report
 expect $none 0 "$report" '' report <(cat $snapshot)
-expect $none 0 'events 0' '' report
+expect $none 0 'events 0
+pairs 0' '' report
 expect $none 1 "$report" '' report --exit-code $snapshot
-expect $none 0 'events 0' '' report --exit-code
+expect $none 0 'events 0
+pairs 0' '' report --exit-code
 words='refused 3 record 8: thread 200 is not below 16'
 expect $none 0 'refused 3 record 8' "$words" report $damaged
 expect $none 2 'refused 3 record 8' "$words" report --exit-code $damaged
@@ -108,7 +110,8 @@ expect /dev/zero 0 'refused 2 record 0: there is no kind 0' '' list
 full=$(printf '2w0 %.0s' {1..4096})
 dump full $full
 dump more $full 3w0
-expect "$work/full" 0 'events 4096' '' report
+expect "$work/full" 0 'events 4096
+pairs 0' '' report
 expect <(while cat "$work/full"; do :; done 2>/dev/null) 0 'refused 7 record 4096: there is room for 4096 events' '' judge 0 1
 expect "$work/more" 2 'refused 7 record 4096' 'refused 7 record 4096: there is room for 4096 events' report --exit-code
 
@@ -183,7 +186,8 @@ refused 'refused 4 record 1: variable 1024 is not below 1024' variable
 dump lock 0w0 1z200
 refused 'refused 4 record 1: lock 200 is not below 200' lock
 dump last 0w0 1a199
-expect "$work/last" 0 'events 2' '' report
+expect "$work/last" 0 'events 2
+pairs 0' '' report
 dump held 0w0 1w0 0a5 1a5
 refused 'refused 5 record 3: acquires lock 5, which is held' held
 dump other 0w0 1w0 0a5 1z5

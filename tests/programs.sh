@@ -71,14 +71,16 @@ fi
 expect examples/damaged.bin 0 'refused 3 record 8' '' racereport
 expect /dev/zero 0 'refused 2 record 0' '' racereport
 expect <(yes) 0 'refused 2 record 0' '' racereport
-expect /dev/null 0 'events 0' '' racereport
+expect /dev/null 0 'events 0
+pairs 0' '' racereport
 
 # as many records as there is room for; a byte more, a record more, and records without end, of which none is read but those that decide
 printf '\2\0\0\0\7\0\0\0%.0s' $(seq 64) >"$work/64"
 for part in $(seq 64); do cat "$work/64"; done >"$work/full"
 { cat "$work/full" && printf '\2'; } >"$work/cut"
 cat "$work/full" "$work/64" >"$work/more"
-expect "$work/full" 0 'events 4096' '' racereport
+expect "$work/full" 0 'events 4096
+pairs 0' '' racereport
 expect "$work/cut" 0 'refused 1 record 4096' '' racereport
 expect "$work/more" 0 'refused 7 record 4096' '' racereport
 expect <(while cat "$work/full" 2>/dev/null; do :; done) 0 'refused 7 record 4096' '' racereport

@@ -184,12 +184,16 @@ static void report(const uint8_t *dump, size_t length)
         return;
     }
     printf("events %d\n", trace.count);
+    long pairs = 0;
     for (int q = 0; q < trace.count; q++) {
         partners(q, racing);
         for (int p = 0; p < q; p++)
-            if (racing[p])
+            if (racing[p]) {
+                pairs++;
                 printf("race %d %d sites %" PRIu32 " %" PRIu32 "\n", p, q, trace.event[p].site, trace.event[q].site);
+            }
     }
+    printf("pairs %ld\n", pairs);
 }
 
 /* 0 no race, 1 race, or 100 and the number of the refusal. */

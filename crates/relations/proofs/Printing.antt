@@ -1,5 +1,6 @@
 -- The examples of texts.
-use Rattle.std.proofs.Common.{◌≡◌, ℕ, ◌↔◌, List, [], ◌∷◌, ◌++◌, map, length, Some, None, Ok, Err, sym, refl, ap, ◌∙◌, subst, arith, lit<, Bor, length-append, append-nil}
+use Rattle.std.proofs.Common.{◌≡◌, ℕ, ◌+◌, ◌↔◌, List, [], ◌∷◌, ◌++◌, map, length, codes, decimal, Some, None, Ok, Err, sym, refl, ap, ◌∙◌, subst, arith, lit<, Bor, length-append, append-nil}
+use Rattle.std.proofs.lemmas.List.{nil_from_length}
 use mathlib.Core.List.Memᴰ
 use mathlib.Core.List.{Memᴰ}
 use Rattle.std.proofs.lemmas.Option.{none-some}
@@ -15,7 +16,7 @@ use Rattle.session.proofs.Asked.{asked}
 use Rattle.run.specs.declared.Call.{Call}
 use Rattle.run.specs.declared.Call.TheVariants.{Judge}
 use Rattle.run.specs.Runs.{Upholds}
-use Rattle.report.specs.Reports.{RaceLines, SweepLines, Reported}
+use Rattle.report.specs.Reports.{pairs_line, RaceLines, SweepLines, Reported}
 use Rattle.report.specs.Reports.RaceLines.{none, more}
 use Rattle.report.specs.Texts.{events_line, refusal_line, After}
 use Rattle.report.specs.declared.told.Finding.{Finding}
@@ -32,7 +33,7 @@ use Rattle.replies.specs.Replies.{told_lines}
 use Rattle.cases.specs.Examples.{three_accesses}
 use Rattle.cases.specs.Cases.{three_pairs}
 use Rattle.cases.proofs.Sweeping.{three_swept}
-use Rattle.relations.specs.Texts.{first, second, third, three_races, cut_record, three_refusals, LineOfPair, AllLines, PairsReported, RecordsReported, CutReported, NothingReported, RefusalsAnswered, RecordsAnswered, RaceTold, WitnessShown, PartnersListed, RacesFound, LineTold}
+use Rattle.relations.specs.Texts.{first, second, third, three_races, three_reported, cut_record, three_refusals, LineOfPair, AllLines, PairsReported, RecordsReported, CutReported, NothingReported, RefusalsAnswered, RecordsAnswered, RaceTold, WitnessShown, PartnersListed, RacesFound, LineTold}
 use Rattle.relations.proofs.Racing.{least_shown}
 use Rattle.relations.proofs.Partnering.{both_partners}
 use Rattle.relations.proofs.Running.{empty_upheld}
@@ -49,12 +50,12 @@ no_lines xs text none e x m = Memᴰ.not-nil m
 no_lines xs text (more i j l) e x m = omega arith
 
 -- and so it is not one of all pairs
-no_sweep_lines : (text : List ℕ) → SweepLines three_accesses text → length text ≡ 0 → ⊥
-no_sweep_lines text h e =
+no_sweep_lines : (n : ℕ) (text : List ℕ) → SweepLines three_accesses n text → length text ≡ 0 → ⊥
+no_sweep_lines n text h e =
     no_lines h.pairs text h.lines e (pair 0 1) ((h.all.exact 0 1).1 ((three_swept.0.exact 0 1).0 (Memᴰ.head refl)))
 
-sweep_lines : SweepLines three_accesses three_races
-sweep_lines = record { pairs = three_pairs; all = three_swept.0; lines = more refl refl (more refl refl (more refl refl none)) }
+sweep_lines : SweepLines three_accesses 3 three_races
+sweep_lines = record { pairs = three_pairs; all = three_swept.0; many = refl; lines = more refl refl (more refl refl (more refl refl none)) }
 
 -- the read has one partner
 first_partner : PartnersOf three_accesses 1 (0 ∷ [])
@@ -69,8 +70,9 @@ first_partner = record {
 pub all_lines : AllLines
 all_lines = (
   sweep_lines,
-  λ h. no_sweep_lines [] h refl,
-  record { partners = 0 ∷ []; all = first_partner; lines = more refl refl none },
+  λ h. no_sweep_lines 3 [] h refl,
+  λ h. Memᴰ.not-nil (subst (Memᴰ (pair 0 1)) (nil_from_length h.pairs h.many) ((h.all.exact 0 1).1 ((three_swept.0.exact 0 1).0 (Memᴰ.head refl)))),
+  record { partners = 0 ∷ []; all = first_partner; many = refl; lines = more refl refl none },
   λ h. no_partner_lines h.partners ((h.all.exact 0).1 ((first_partner.exact 0).0 (Memᴰ.head refl))) h.lines,
 )
   where
@@ -80,10 +82,13 @@ all_lines = (
 
 not_reported : Reported three_accesses (events_line 3) → ⊥
 not_reported h =
-    no_sweep_lines h.races h.all (let i = ap length h.text_is ∙ length-append (events_line 3) h.races in omega arith)
+    let i = ap length h.text_is ∙ length-append (events_line 3) (h.races ++ pairs_line h.count) in
+    let l = length-append h.races (pairs_line h.count) in
+    let m = length-append (codes "pairs ") (decimal h.count ++ codes "\n") in
+    omega arith
 
 pub pairs_reported : PairsReported
-pairs_reported = (record { races = three_races; all = sweep_lines; text_is = refl }, not_reported)
+pairs_reported = (record { races = three_races; count = 3; all = sweep_lines; text_is = refl }, not_reported)
 
 -- the records of the three accesses are taken
 three_taken : enter_all 3 [] (record_of first ++ (record_of second ++ record_of third)) ≡ record { answer = Ok 3; events = three_accesses }
@@ -91,16 +96,16 @@ three_taken = rw (record_means first, record_means second, record_means third) r
 
 pub records_reported : RecordsReported
 records_reported = (
-  subst (λ (o : Outcome ℕ). After Reported o.answer o.events (events_line 3 ++ three_races)) (sym three_taken) pairs_reported.0,
+  subst (λ (o : Outcome ℕ). After Reported o.answer o.events three_reported) (sym three_taken) pairs_reported.0,
   λ h. not_reported (subst (λ (o : Outcome ℕ). After Reported o.answer o.events (events_line 3)) three_taken h),
 )
 
 pub cut_reported : CutReported
-cut_reported room = (refl, λ h. let e : events_line 0 ++ [] ≡ refusal_line cut_record = h in grind arith)
+cut_reported room = (refl, λ h. let e : events_line 0 ++ ([] ++ pairs_line 0) ≡ refusal_line cut_record = h in grind arith)
 
 pub nothing_reported : NothingReported
 nothing_reported room = (
-  record { races = []; all = record { pairs = []; all = record { in_order = tt; exact = no_pairs }; lines = none }; text_is = refl },
+  record { races = []; count = 0; all = record { pairs = []; all = record { in_order = tt; exact = no_pairs }; many = refl; lines = none }; text_is = refl },
   λ h. let e = h.text_is in grind arith,
 )
   where

@@ -10,7 +10,7 @@ use Rattle.answer.specs.Faults.{Refusal}
 use Rattle.session.specs.Races.{pair}
 use Rattle.run.specs.declared.Call.TheVariants.{Judge}
 use Rattle.report.specs.Answers.{answer_text, three_lines, Answered}
-use Rattle.report.specs.Reports.{race_line, RaceLines, PartnerLines, SweepLines, Reported, ReportOf}
+use Rattle.report.specs.Reports.{race_line, pairs_line, RaceLines, PartnerLines, SweepLines, Reported, ReportOf}
 use Rattle.report.specs.declared.told.Finding.{Finding}
 use Rattle.report.specs.declared.told.Finding.TheVariants.{Refused, Race, Nothing}
 use Rattle.report.specs.Refusals.{refused_record}
@@ -38,15 +38,19 @@ LineOfPair = RaceLines three_accesses (pair 0 1 ∷ []) (race_line 0 1 first sec
 abbrev pub three_races : List ℕ
 three_races = race_line 0 1 first second ++ (race_line 0 2 first third ++ (race_line 1 2 second third ++ []))
 
--- all pairs have lines, and those with one later position; wrong: no line where there is a pair
+-- all pairs have lines, and those with one later position, and they are so many; wrong: no line where there is a pair, and a total of none
 abbrev pub AllLines : Type 0
 AllLines =
-    SweepLines three_accesses three_races × (SweepLines three_accesses [] → ⊥) × PartnerLines three_accesses 1 (race_line 0 1 first second ++ [])
-    × (PartnerLines three_accesses 1 [] → ⊥)
+    SweepLines three_accesses 3 three_races × (SweepLines three_accesses 3 [] → ⊥) × (SweepLines three_accesses 0 three_races → ⊥)
+    × PartnerLines three_accesses 1 1 (race_line 0 1 first second ++ []) × (PartnerLines three_accesses 1 1 [] → ⊥)
 
--- the report of the three accesses; wrong: the number of events and no pair
+-- the report of the three accesses, with its total
+abbrev pub three_reported : List ℕ
+three_reported = events_line 3 ++ (three_races ++ pairs_line 3)
+
+-- it is their report; wrong: the number of events and no pair
 abbrev pub PairsReported : Type 0
-PairsReported = Reported three_accesses (events_line 3 ++ three_races) × (Reported three_accesses (events_line 3) → ⊥)
+PairsReported = Reported three_accesses three_reported × (Reported three_accesses (events_line 3) → ⊥)
 
 -- the refusal of the first record, of which there are too few bytes
 abbrev pub cut_record : Refusal
@@ -56,15 +60,15 @@ cut_record = record { number = 1; layer = Record; index = 0 }
 abbrev pub RecordsReported : Type 0
 RecordsReported =
     let input = record_of first ++ (record_of second ++ record_of third) in
-    ReportOf 3 input (events_line 3 ++ three_races) × (ReportOf 3 input (events_line 3) → ⊥)
+    ReportOf 3 input three_reported × (ReportOf 3 input (events_line 3) → ⊥)
 
 -- the report of one byte is the line of its refusal; wrong: the report of no events, as if the byte had been left out
 abbrev pub CutReported : Type 0
-CutReported = (room : ℕ) → ReportOf room (1 ∷ []) (refusal_line cut_record) × (ReportOf room (1 ∷ []) (events_line 0 ++ []) → ⊥)
+CutReported = (room : ℕ) → ReportOf room (1 ∷ []) (refusal_line cut_record) × (ReportOf room (1 ∷ []) (events_line 0 ++ ([] ++ pairs_line 0)) → ⊥)
 
 -- the report of no bytes; wrong: the empty text
 abbrev pub NothingReported : Type 0
-NothingReported = (room : ℕ) → ReportOf room [] (events_line 0 ++ []) × (ReportOf room [] [] → ⊥)
+NothingReported = (room : ℕ) → ReportOf room [] (events_line 0 ++ ([] ++ pairs_line 0)) × (ReportOf room [] [] → ⊥)
 
 -- the three questions are refused with 8
 abbrev pub three_refusals : List ℕ

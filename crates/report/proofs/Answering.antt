@@ -1,5 +1,6 @@
 -- What is told of the answers of a session.
-use Rattle.std.proofs.Common.{◌≡◌, ℕ, ◌+◌, Bool, List, [], length, Ok, Err, refl, subst, arith, length-append, codes, ◌++◌}
+use Rattle.std.proofs.Common.{◌≡◌, ℕ, Bool, List, [], ◌∷◌, length, Ok, Err, refl, ◌∙◌, subst, arith, codes}
+use Rattle.std.proofs.lemmas.List.{nil_from_length}
 use mathlib.Core.List.Memᴰ
 use mathlib.Core.List.{Memᴰ}
 use Rattle.trace.specs.declared.event.Event.{Event}
@@ -22,24 +23,17 @@ use Rattle.report.specs.Told.AnswersTold.{refused as not_answered, answered as a
 use Rattle.report.specs.Told.VerdictTold.{refused as not_judged, race as told_race, no_race as told_no_race}
 
 module _ (t : List Event) where
-  -- a line is no empty text
-  no_pairs : {xs : List RacePair} {lines : List ℕ} → RaceLines t xs lines → length lines ≡ 0 → xs ≡ []
-  no_pairs no_line empty = refl
-  no_pairs (more {p} {q} {e} {f} {xs} {text} i j l) empty =
-      absurd (let long : length (race_line p q e f ++ text) ≡ length (race_line p q e f) + length text = length-append (race_line p q e f) text in omega arith)
+  -- a report has a line just where there is a racing pair
+  pub finds_none : {n : ℕ} {lines : List ℕ} → SweepLines t n lines → n ≡ 0 → FindsRaces t Nothing
+  finds_none s zero =
+      let is = nil_from_length s.pairs (s.many ∙ zero) in none (λ p q r. Memᴰ.not-nil (subst (Memᴰ (pair p q)) is ((s.all.exact p q).1 r)))
 
-  -- so a report has a line just where there is a racing pair
-  pub finds_none : {lines : List ℕ} → SweepLines t lines → length lines ≡ 0 → FindsRaces t Nothing
-  finds_none s empty =
-      let is = no_pairs s.lines empty in
-      none (λ p q r. Memᴰ.not-nil (subst (Memᴰ (pair p q)) is ((s.all.exact p q).1 r)))
-
-  pub finds_race : {lines : List ℕ} → SweepLines t lines → (length lines ≡ 0 → ⊥) → FindsRaces t Found
-  finds_race s some = by s.all s.lines some
+  pub finds_race : {n : ℕ} {lines : List ℕ} → SweepLines t n lines → (n ≡ 0 → ⊥) → FindsRaces t Found
+  finds_race s some = by s.pairs s.all (λ e. some (let m = s.many in omega (arith, e)))
     where
-      by : {xs : List RacePair} {lines : List ℕ} → SweepOf t xs → RaceLines t xs lines → (length lines ≡ 0 → ⊥) → FindsRaces t Found
-      by all no_line some = absurd (some refl)
-      by all (more {p} {q} i j l) some = some_race ((all.exact p q).0 (Memᴰ.head refl))
+      by : (xs : List RacePair) → SweepOf t xs → (length xs ≡ 0 → ⊥) → FindsRaces t Found
+      by [] all some = absurd (some refl)
+      by (x ∷ xs) all some = some_race ((all.exact x.first x.second).0 (Memᴰ.head refl))
 
   module _ (p q : ℕ) where
     -- the answers, where the pair can be asked about and where not

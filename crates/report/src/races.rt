@@ -1,9 +1,9 @@
 //! The race report of a dump: the number of its events and a line for each racing pair, or the line of the first refusal.
-ghost use Rattle.std.specs.Prelude.{◌≡◌, ◌<◌, ◌≤◌, map, length, IfOk, Some, string_bytes};
+ghost use Rattle.std.specs.Prelude.{◌≡◌, ◌≤◌, map, length, IfOk, Some, string_bytes};
+ghost use Rattle.std.specs.List.{slice_get};
 ghost use Rattle.session.specs.Races.{PartnersOf, pair};
-ghost use Rattle.report.specs.Reports.{race_line, RaceLines, PartnerLines, SweepLines, Reported};
+ghost use Rattle.report.specs.Reports.{race_line, pairs_line, RaceLines, PartnerLines, SweepLines};
 
-use crate::listing::EventsLine;
 use reel::Reel;
 use session::session::Session;
 use std::alloc::{AllocError, Global};
@@ -50,21 +50,45 @@ pub fn race_line(
     line.to_string(heap)
 }
 
-/// The lines of the racing pairs of q with its partners.
+/// The line with the number of racing pairs.
+#[derive(Clone, Copy)]
+pub(crate) struct PairsLine(pub(crate) usize);
+
+impl fmt::Display for PairsLine {
+    ghost output = { λ l. Some (pairs_line l.0) };
+
+    fn fmt<W: fmt::Write>(&self, f: &mut fmt::Formatter<W>) -> fmt::Result {
+        let count = self.0;
+        writeln!(f, "pairs {count}")
+    }
+}
+
+/// The lines of racing pairs, and how many they are.
+#[derive(Drop)]
+pub(crate) struct PairLines {
+    pub(crate) text: String,
+    pub(crate) count: usize,
+}
+
+/// An event with its position.
+#[derive(Clone, Copy)]
+struct Placed {
+    position: usize,
+    event: Event,
+}
+
+/// The lines of the racing pairs of a later event with its partners.
 fn pair_lines<R: Reel>(
     heap: Global,
     session: &Session<R>,
-    q: usize,
+    later: Placed,
     partners: &[u16],
 ) -> Result<String, AllocError>
-    requires inside { q < length session.now.trace }
-    requires partners { PartnersOf session.now.trace q partners.now }
-    ensures { IfOk result (λ s. RaceLines session.now.trace (map (λ p. pair p q) partners.now) (string_bytes s)) }
+    requires later { slice_get session.now.trace later.position ≡ Some later.event }
+    requires partners { PartnersOf session.now.trace later.position partners.now }
+    ensures { IfOk result (λ s. RaceLines session.now.trace (map (λ p. pair p later.position) partners.now) (string_bytes s)) }
 {
     let mut text = String::new(heap);
-    let Some(second) = session.event(q) else {
-        unreachable!()
-    };
     for partner in partners {
         let p = usize::from(*partner);
         let Some(first) = session.event(p) else {
@@ -72,51 +96,48 @@ fn pair_lines<R: Reel>(
         };
         let line = RaceLine {
             p,
-            q,
+            q: later.position,
             first,
-            second,
+            second: later.event,
         };
         write!(text, "{line}")?;
     }
     Ok(text)
 }
 
-/// The lines of the racing pairs whose later position is q; its partners are gathered in the buffer, which has a place for each.
+/// The lines of the racing pairs of a later event; its partners are gathered in the buffer, which has a place for each.
 fn partner_lines<R: Reel>(
     heap: Global,
     session: &Session<R>,
-    q: usize,
+    later: Placed,
     buffer: &mut [u16],
-) -> Result<String, AllocError>
-    requires inside { q < length session.now.trace }
+) -> Result<PairLines, AllocError>
+    requires later { slice_get session.now.trace later.position ≡ Some later.event }
     requires places { length session.now.trace ≤ length buffer.old }
-    ensures { IfOk result (λ s. PartnerLines session.now.trace q (string_bytes s)) }
+    ensures { IfOk result (λ r. PartnerLines session.now.trace later.position r.count (string_bytes r.text)) }
 {
-    let Ok(count) = session.partners(q, buffer) else {
+    let Ok(count) = session.partners(later.position, buffer) else {
         unreachable!()
     };
-    pair_lines(heap, session, q, &buffer[..count])
+    let text = pair_lines(heap, session, later, &buffer[..count])?;
+    Ok(PairLines { text, count })
 }
 
-/// The lines of a session's racing pairs, one later position after another.
-pub(crate) fn race_lines<R: Reel>(heap: Global, session: &Session<R>) -> Result<String, AllocError>
-    ensures { IfOk result (λ s. SweepLines session.now.trace (string_bytes s)) }
+/// The lines of a session's racing pairs, one later position after another, and how many they are.
+pub(crate) fn race_lines<R: Reel>(
+    heap: Global,
+    session: &Session<R>,
+) -> Result<PairLines, AllocError>
+    ensures { IfOk result (λ r. SweepLines session.now.trace r.count (string_bytes r.text)) }
 {
     let mut text = String::new(heap);
-    let count = session.count();
-    let mut buffer = vec![in heap; 0u16; count]?;
-    for q in 0..count {
-        let lines = partner_lines(heap, session, q, buffer.as_mut_slice())?;
-        text.push_str(lines.as_str())?;
+    let mut count = 0;
+    let mut buffer = vec![in heap; 0u16; session.count()]?;
+    for (position, event) in session.iter().enumerate() {
+        let later = Placed { position, event };
+        let lines = partner_lines(heap, session, later, buffer.as_mut_slice())?;
+        text.push_str(lines.text.as_str())?;
+        count += lines.count;
     }
-    Ok(text)
-}
-
-/// The race report of a session's events.
-pub fn race_report<R: Reel>(heap: Global, session: &Session<R>) -> Result<String, AllocError>
-    ensures { IfOk result (λ s. Reported session.now.trace (string_bytes s)) }
-{
-    let count = EventsLine(session.count());
-    let lines = race_lines(heap, session)?;
-    format!(in heap; "{count}{lines}")
+    Ok(PairLines { text, count })
 }

@@ -5,7 +5,7 @@ ghost use Rattle.report.specs.Reports.{Reported, ReportOf};
 ghost use Rattle.report.specs.Told.{FindsRaces, ReportToldOf};
 
 use crate::listing::{EventsLine, refusal_line};
-use crate::races::race_lines;
+use crate::races::{PairLines, PairsLine, race_lines};
 use crate::refusals::refused_record;
 use crate::told::{Finding, Told};
 use reel::Reel;
@@ -14,18 +14,19 @@ use session::records::enter_records;
 use session::session::Session;
 use std::alloc::{AllocError, Global};
 
-/// The race report of a session's events. It has a line for each racing pair, so there is none where it has no line.
-fn reported<R: Reel>(heap: Global, session: &Session<R>) -> Result<Told, AllocError>
+/// The race report of a session's events, and whether it has a race.
+pub fn race_report<R: Reel>(heap: Global, session: &Session<R>) -> Result<Told, AllocError>
     ensures { let t = session.now.trace in IfOk result (λ r. Reported t (string_bytes r.text) × FindsRaces t r.finding) }
 {
-    let count = EventsLine(session.count());
-    let lines = race_lines(heap, session)?;
-    let finding = if lines.is_empty() {
+    let events = EventsLine(session.count());
+    let PairLines { text: races, count } = race_lines(heap, session)?;
+    let finding = if count == 0 {
         Finding::Nothing
     } else {
         Finding::Race
     };
-    let text = format!(in heap; "{count}{lines}")?;
+    let pairs = PairsLine(count);
+    let text = format!(in heap; "{events}{races}{pairs}")?;
     Ok(Told { text, finding })
 }
 
@@ -46,7 +47,7 @@ pub fn told_report(heap: Global, size: usize, input: &[u8]) -> Result<ReportTold
     let mut session = Session::open(HostReel::over(storage.as_mut_slice()));
     match enter_records(&mut session, input) {
         Ok(_) => Ok(ReportTold {
-            told: reported(heap, &session)?,
+            told: race_report(heap, &session)?,
             words: String::new(heap),
         }),
         Err(refused) => Ok(ReportTold {
