@@ -65,7 +65,9 @@ static const char *words(uint32_t answer)
     case LENOGNEISS_SUBJECT:
         return "refused 4: a record's variable or lock is above its limit";
     case LENOGNEISS_LOCK_HELD:
-        return "refused 5: a lock is acquired that is held";
+        return "refused 5: a lock is acquired that another thread holds";
+    case LENOGNEISS_TOO_DEEP:
+        return "refused 13: a lock would be held more than 255 deep";
     case LENOGNEISS_NOT_HOLDER:
         return "refused 6: a lock is released by a thread that does not hold it";
     case LENOGNEISS_FULL:

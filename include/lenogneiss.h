@@ -33,7 +33,9 @@ enum lenogneiss_answer {
     LENOGNEISS_KIND = 102,        /* a record's kind is not 1 to 4 */
     LENOGNEISS_THREAD = 103,      /* a record's thread is above 15 */
     LENOGNEISS_SUBJECT = 104,     /* a record's variable is above 1,023, or its lock above 199 */
-    LENOGNEISS_LOCK_HELD = 105,   /* an acquire of a lock that is held, by its own thread too */
+    LENOGNEISS_LOCK_HELD = 105,   /* an acquire of a lock that another thread holds */
+    LENOGNEISS_TOO_DEEP = 113,    /* an acquire by which its thread would hold the lock more than
+                                     255 deep */
     LENOGNEISS_NOT_HOLDER = 106,  /* a release by a thread that does not hold the lock */
     LENOGNEISS_FULL = 107,        /* there are more than 1,024 records */
 
@@ -56,12 +58,12 @@ enum lenogneiss_answer {
  *
  * The answer is one of the list above. Where several refusals apply: 101 comes before all
  * others; then the records are taken one by one, and the first that is refused decides, by
- * the lowest number that applies to it; the positions are looked at only when all records
- * are taken, and the lowest number that applies decides.
+ * the refusal that stands first in the list above of those that apply to it; the positions
+ * are looked at only when all records are taken, and again the first in the list decides.
  *
  * For all bytes and all numbers it is proved that the call returns, and that its answer is
  * the one that this list says. The caller owes that length bytes can be read at dump, that
- * they do not change during the call, and about 28 KiB of stack.
+ * they do not change during the call, and about 29 KiB of stack.
  *
  * The call keeps no state, allocates nothing and writes nothing but its stack, so it may run
  * in several threads at once, on the same dump too.

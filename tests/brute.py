@@ -8,21 +8,22 @@ they must be. A trace is a list of (kind, thread, subject)."""
 import itertools, random, struct, subprocess, sys
 
 READ, WRITE, ACQUIRE, RELEASE = 1, 2, 3, 4
-LAST_LOCK = 199
+LAST_LOCK, DEEPEST = 199, 255
 
 
-def refusal(trace, event):
-    """Why the trace check turns the event away after the trace: 5, 6 or 0."""
+def depth(events, thread, lock):
+    """How deep the thread is in the lock after the events: its acquires of it less its releases."""
+    return events.count((ACQUIRE, thread, lock)) - events.count((RELEASE, thread, lock))
+
+
+def refusal(events, event):
+    """Why the trace check turns the event away after the events: 5, 13, 6 or 0."""
     kind, thread, subject = event
-    holder = None
-    for k, t, s in trace:
-        if s == subject and k == ACQUIRE:
-            holder = t
-        if s == subject and k == RELEASE:
-            holder = None
-    if kind == ACQUIRE and holder is not None:
+    if kind == ACQUIRE and any(depth(events, t, subject) > 0 for _, t, _ in set(events) if t != thread):
         return 5
-    return 6 if kind == RELEASE and holder != thread else 0
+    if kind == ACQUIRE and depth(events, thread, subject) == DEEPEST:
+        return 13
+    return 6 if kind == RELEASE and depth(events, thread, subject) == 0 else 0
 
 
 def last_write(trace, positions, variable):
@@ -35,31 +36,44 @@ def before(trace, i):
     return [j for j in range(i) if trace[j][1] == trace[i][1]]
 
 
-def allowed(trace, chosen):
-    """Whether the list is a sync-preserving correct reordering."""
-    for n, i in enumerate(chosen):
-        earlier, (kind, _, subject) = chosen[:n], trace[i]
-        if any(j not in earlier for j in before(trace, i)):
-            return False
-        if refusal([trace[j] for j in earlier], trace[i]):
-            return False
-        if kind == READ and last_write(trace, earlier, subject) != last_write(trace, range(i), subject):
-            return False
-        if kind == ACQUIRE and any(trace[j][0] == ACQUIRE and trace[j][2] == subject and j > i for j in earlier):
-            return False
-    return True
+def depth_at(trace, i):
+    """How deep the thread of i is in the subject of i, as a lock, by its own events before i."""
+    return depth([trace[j] for j in before(trace, i)], *trace[i][1:])
+
+
+def outer_acquires(trace):
+    """The positions that acquire a lock that their thread is not in."""
+    return {i for i in range(len(trace)) if trace[i][0] == ACQUIRE and depth_at(trace, i) == 0}
+
+
+def has_inner(trace):
+    """Whether an event acquires a lock that its thread is in, or releases one without freeing it."""
+    return any(depth_at(trace, i) > (trace[i][0] == RELEASE) for i in range(len(trace)) if trace[i][0] >= ACQUIRE)
+
+
+def follows(trace, outer, earlier, i):
+    """Whether the list with i after it is a sync-preserving correct reordering, where the list is one and these
+    are the outer acquires."""
+    kind, _, subject = trace[i]
+    if i in earlier or any(j not in earlier for j in before(trace, i)):
+        return False
+    if kind == READ and last_write(trace, earlier, subject) != last_write(trace, range(i), subject):
+        return False
+    if i in outer and any(j > i and j in outer and trace[j][2] == subject for j in earlier):
+        return False
+    return not refusal([trace[j] for j in earlier], trace[i])
 
 
 def reorderings(trace):
     """All sync-preserving correct reorderings. Up to five events every list is tried; beyond, lists grow
     from the front, which loses none, since the beginning of such a reordering is one too."""
-    n = len(trace)
+    n, outer = len(trace), outer_acquires(trace)
     if n <= 5:
         every = (list(c) for k in range(n + 1) for c in itertools.permutations(range(n), k))
-        return [c for c in every if allowed(trace, c)]
+        return [c for c in every if all(follows(trace, outer, c[:k], i) for k, i in enumerate(c))]
     found, ends = [[]], [[]]
     while ends:
-        ends = [e + [i] for e in ends for i in range(n) if i not in e and allowed(trace, e + [i])]
+        ends = [e + [i] for e in ends for i in range(n) if follows(trace, outer, e, i)]
         found += ends
     return found
 
@@ -72,31 +86,63 @@ def conflicts(trace):
 def races(trace):
     def enabled(i, listed):
         return i not in listed and all(j in listed for j in before(trace, i))
-    sets = {frozenset(c) for c in reorderings(trace)}
-    return [(p, q) for p, q in conflicts(trace) if any(enabled(p, s) and enabled(q, s) for s in sets)]
+    pairs = conflicts(trace)
+    sets = {frozenset(c) for c in reorderings(trace)} if pairs else set()
+    return [(p, q) for p, q in pairs if any(enabled(p, s) and enabled(q, s) for s in sets)]
+
+
+# What a thread may begin with: L and M acquire the first and the last lock, l and m release them, r and w touch
+# a variable
+OPENINGS = ["LLw", "LLlw", "LLlwl", "LLwll", "LwLlrl", "LMLw", "LMLlmw", "LMLlwlm", "LMLmwll", "MLMmlwm", "LLMwlml"]
+
+
+def opening(rng, thread, locks, variables):
+    kinds = {"L": ACQUIRE, "M": ACQUIRE, "l": RELEASE, "m": RELEASE, "r": READ, "w": WRITE}
+    subjects = {"l": locks[0], "m": locks[-1]}
+    return [(kinds[d], thread, subjects.get(d.lower(), rng.randrange(variables))) for d in rng.choice(OPENINGS)]
+
+
+def deep(rng):
+    """One thread as deep in a lock as can be, perhaps trying to go deeper, or another one at its door. None of these
+    events conflict, so that no reordering is looked for."""
+    trace, at = [(ACQUIRE, 1, LAST_LOCK)] * DEEPEST, rng.randrange(1, DEEPEST)
+    trace[at:at] = rng.choice([[], [(RELEASE, 1, LAST_LOCK), (ACQUIRE, 1, LAST_LOCK)]])
+    last = rng.choice([None, (ACQUIRE, 1, LAST_LOCK), (ACQUIRE, 0, LAST_LOCK), (RELEASE, 0, LAST_LOCK)])
+    if last is None:
+        return trace, None
+    return trace + [last], "refused %d record %d" % (refusal(trace, last), len(trace))
 
 
 def tiny(rng):
     """A random trace that the trace check admits; or one whose last event it refuses, with the report."""
+    if rng.random() < 0.01:
+        return deep(rng)
     threads, variables = rng.choice([2, 2, 3]), rng.choice([1, 1, 2])
     locks = rng.choice([[0], [LAST_LOCK], [0, LAST_LOCK]])
-    trace, length, thread = [], rng.choice([rng.randint(2, 10)] * 9 + [13]), 0
+    trace, length, thread = [], rng.choice([rng.randint(2, 11)] * 9 + [14]), 0
+    ahead = [e for t in range(rng.choice([0, 0, 1, 2, 2])) for e in opening(rng, t, locks, variables)]
     while len(trace) < length:
         kind = rng.choice([READ, WRITE, ACQUIRE, RELEASE])
         thread = rng.randrange(threads) if rng.random() < 0.4 else thread
         event = (kind, thread, rng.randrange(variables) if kind <= WRITE else rng.choice(locks))
+        event = ahead.pop(0) if ahead else event
         refused = refusal(trace, event)
         if not refused:
             trace.append(event)
-        elif rng.random() < 0.03:
+        elif rng.random() < 0.05:
             return trace + [event], "refused %d record %d" % (refused, len(trace))
     return trace, None
+
+
+def tallied(traces):
+    """Of some traces, with their racing pairs: how many traces, conflicting pairs and racing pairs there are."""
+    return len(traces), sum(len(conflicts(trace)) for trace, _ in traces), sum(len(racing) for _, racing in traces)
 
 
 def main():
     reference, traces, seed = (sys.argv[1:] + ["3000", "1"][len(sys.argv) - 2:])[:3]
     traces, rng = int(traces), random.Random(seed)
-    stream, cases, reports, answers = b"", b"", [], []
+    stream, cases, reports, answers, admitted = b"", b"", [], [], []
     for _ in range(traces):
         trace, refused = tiny(rng)
         dump = b"".join(struct.pack("<BBHI", *e, 7 + i) for i, e in enumerate(trace))
@@ -105,6 +151,7 @@ def main():
         lines = ["events %d" % len(trace)] + ["race %d %d sites %d %d" % (p, q, 7 + p, 7 + q) for p, q in racing]
         lines += ["pairs %d" % len(racing)]
         reports.append(refused or "\n".join(lines))
+        admitted += [] if refused else [(trace, racing)]
         for pair in [] if refused else conflicts(trace):
             cases += struct.pack("<Q", len(dump)) + dump + struct.pack("<QQ", *pair)
             answers.append(pair in racing)
@@ -114,8 +161,9 @@ def main():
     differ = abs(len(said) - traces) + abs(len(judged) - len(answers))
     differ += sum(a != b for a, b in zip(said, reports))
     differ += sum(int(a) != b for a, b in zip(judged, answers))
-    tally = traces, sum(r[0] == "r" for r in reports), len(answers), sum(answers), differ
-    print("brute: %d traces, %d refused, %d pairs, %d races, %d differ" % tally)
+    inner = [(trace, racing) for trace, racing in admitted if has_inner(trace)]
+    print("brute: %d refused, %d traces, %d pairs, %d races;" % (traces - len(admitted), *tallied(admitted)), end=" ")
+    print("with inner events %d traces, %d pairs, %d races; %d differ" % (*tallied(inner), differ))
     sys.exit(differ != 0)
 
 

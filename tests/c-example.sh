@@ -51,7 +51,8 @@ short='refused 1: the length is no multiple of 8'
 kind='refused 2: a record has no known kind'
 thread="refused 3: a record's thread is above its limit"
 subject="refused 4: a record's variable or lock is above its limit"
-held='refused 5: a lock is acquired that is held'
+held='refused 5: a lock is acquired that another thread holds'
+deep='refused 13: a lock would be held more than 255 deep'
 holder='refused 6: a lock is released by a thread that does not hold it'
 full='refused 7: there are more records than the table holds'
 event='refused 8: there is no event at a position'
@@ -82,6 +83,10 @@ expect examples/snapshot-40.bin 39 40 "$event"
 
 # a record whose thread is 200
 expect examples/damaged.bin 0 1 "$thread"
+
+# a write behind an inner release, which is in its section still
+expect examples/inner-section.bin 3 5 race
+expect examples/inner-section.bin 3 7 'no race'
 
 # two writes under one lock
 dump locked 0a0 0w0 0z0 1a0 1w0 1z0
@@ -129,15 +134,23 @@ expect lock 0 1 "$subject"
 dump taken 0w0 1a200
 expect taken 0 1 "$subject"
 
-# locks that are held, also by the thread itself, and locks that are not
+# locks that another thread holds, that the thread holds itself, as deep as can be and deeper, and locks that no thread holds
 dump held 0w0 1w0 0a5 1a5
 expect held 0 1 "$held"
+dump inside 0w0 1w0 0a5 0a5 0z5 1a5
+expect inside 0 1 "$held"
 dump again 0w0 1w0 0a5 0a5
-expect again 0 1 "$held"
+expect again 0 1 race
+dump deepest 0w0 1w0 $(printf '0a5 %.0s' {1..255})
+expect deepest 0 1 race
+dump deep 0w0 1w0 $(printf '0a5 %.0s' {1..256})
+expect deep 0 1 "$deep"
 dump other 0w0 1w0 0a5 1z5
 expect other 0 1 "$holder"
 dump free 0w0 1w0 1z5
 expect free 0 1 "$holder"
+dump freed 0w0 1w0 0a5 0a5 0z5 0z5 0z5
+expect freed 0 1 "$holder"
 
 # 1,024 records, and one more; the checks of that one come first
 dump full 0w0 $(printf '1w%d ' $(seq 0 1022))

@@ -69,6 +69,8 @@ dump() {
 snapshot=examples/snapshot-900.bin
 sections=examples/two-sections.bin
 damaged=examples/damaged.bin
+monitors=examples/monitors-60.bin
+inner=examples/inner-section.bin
 none=/dev/null
 
 # what it takes: each help is an answer, and the first fits a screen
@@ -101,6 +103,7 @@ pairs 0' '' report
 expect $none 1 "$report" '' report --exit-code $snapshot
 expect $none 0 'events 0
 pairs 0' '' report --exit-code
+expect $none 0 "$(cat tests/stored/monitors-report.txt)" '' report $monitors
 words='refused 3 record 8: thread 200 is not below 16'
 expect $none 0 'refused 3 record 8' "$words" report $damaged
 expect $none 2 'refused 3 record 8' "$words" report --exit-code $damaged
@@ -120,6 +123,24 @@ listing=$(cat tests/stored/list.txt)
 expect examples/snapshot-40.bin 0 "$listing" '' list
 expect $none 0 "$listing" '' list examples/snapshot-40.bin
 expect $none 0 'events 0' '' list --exit-code
+expect $none 0 "$(cat tests/stored/monitors-list.txt)" '' list $monitors
+
+# an inner acquire or release has its depth, to the deepest
+expect $inner 0 '0 thread 0 acquires lock 0 site 10
+1 thread 0 acquires lock 0 at depth 2 site 20
+2 thread 0 releases lock 0 at depth 2 site 30
+3 thread 0 writes variable 0 site 40
+4 thread 0 releases lock 0 site 50
+5 thread 1 writes variable 0 site 60
+6 thread 1 acquires lock 0 site 70
+7 thread 1 writes variable 0 site 80
+events 8' '' list
+deepest=$(printf '0a5 %.0s' {1..255})
+dump deepest $deepest 0z5
+expect "$work/deepest" 0 "0 thread 0 acquires lock 5 site 7
+$(for depth in {2..255}; do echo "$((depth - 1)) thread 0 acquires lock 5 at depth $depth site 7"; done)
+255 thread 0 releases lock 5 at depth 255 site 7
+events 256" '' list
 expect $none 2 "$words" '' list --exit-code $damaged
 
 # verdicts and witnesses
@@ -132,6 +153,12 @@ positions 3 4' '' witness 0 5 $sections
 expect $sections 1 'witness 2
 thread 1 up to and with event 4
 positions 3 4' '' witness --exit-code 0 5
+expect $inner 0 race '' judge 3 5
+expect $inner 0 'witness 3
+thread 0 up to and with event 2
+positions 0 1 2' '' witness 3 5
+expect $inner 0 'no race' '' judge 3 7
+expect $inner 0 'refused 11: events 3 and 7 do not race' '' witness 3 7
 dump locked 0a0 0w0 0z0 1a0 1w0 1z0
 expect "$work/locked" 0 'no race' '' judge 1 4
 expect "$work/locked" 0 'no race' '' judge --exit-code 1 4
@@ -189,7 +216,9 @@ dump last 0w0 1a199
 expect "$work/last" 0 'events 2
 pairs 0' '' report
 dump held 0w0 1w0 0a5 1a5
-refused 'refused 5 record 3: acquires lock 5, which is held' held
+refused 'refused 5 record 3: acquires lock 5, which another thread holds' held
+dump deep 0w0 1w0 $deepest 0a5
+refused 'refused 13 record 257: acquires lock 5, which thread 0 would hold more than 255 deep' deep
 dump other 0w0 1w0 0a5 1z5
 refused 'refused 6 record 3: releases lock 5, which thread 1 does not hold' other
 
@@ -204,6 +233,12 @@ expect $sections 2 'unordered refused 8
 schedulable refused 8
 vet refused 8' '' ask --exit-code 5 6 1
 expect $none 0 "$words" '' ask 0 1 --dump $damaged
+expect $inner 0 'unordered yes
+schedulable yes
+vet yes' '' ask 3 5 0 1 2
+expect $inner 0 'unordered no
+schedulable no
+vet no' '' ask 3 7 0 1 2 5 6
 
 # scripts: each reply stands below the words of its call, and the replies are those of the run
 run tests/stored/script.txt script

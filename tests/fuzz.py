@@ -89,12 +89,13 @@ def batches(total, size):
 # The program
 
 
-def kind_of(report):
-    """A word for the tally: the refusal, or whether there are races."""
+def kind_of(report, dump):
+    """A word for the tally: the refusal, or whether there are races, and whether locks are taken again."""
     first = report.split(b"\n", 1)[0].decode()
     if first.startswith("refused"):
         return " ".join(first.split()[:2])
-    return "races" if report.count(b"\n") > 1 else "no race"
+    found = "no race" if report.endswith(b"\npairs 0\n") else "races"
+    return found + (" beside inner acquires" if fuzz_dumps.has_inner(dump) else "")
 
 
 def some_pieces(rng, length):
@@ -117,7 +118,7 @@ def fuzz_program(harness):
             pieces = some_pieces(maker.numbers("pieces", i), len(dump))
             status, out, err, seconds = harness.run([options.racereport], dump, pieces)
             sorts[sort] += 1
-            reports[kind_of(right)] += 1
+            reports[kind_of(right, dump)] += 1
             fed["a pipe in pieces" if pieces else "a file"] += 1
             longest = max(longest, (seconds, "dump %d, %s, %d bytes" % (i, sort, len(dump))))
             if status != 0 or err or out != right:
@@ -129,7 +130,9 @@ def fuzz_program(harness):
     show("reports", reports)
     show("fed through", fed)
     print("longest run: %.2f s, %s" % longest, flush=True)
-    return missing(reports, ["refused %d" % n for n in range(1, 8)] + ["races", "no race"], options.dumps)
+    wanted = ["refused %d" % n for n in [*range(1, 8), 13]]
+    wanted += [found + inner for found in ("races", "no race") for inner in ("", " beside inner acquires")]
+    return missing(reports, wanted, options.dumps)
 
 
 # The C entry
@@ -163,6 +166,11 @@ def compare_answers(harness, words, batch, cases):
     return [int(n) for n in right], seconds
 
 
+def answer_of(number, dump):
+    """A word for the tally: the answer, and to a verdict whether locks are taken again."""
+    return "answer %d" % number + (" beside inner acquires" if number < 2 and fuzz_dumps.has_inner(dump) else "")
+
+
 def fuzz_entry(harness, host):
     options, longest = harness.options, (0.0, "")
     sorts, ways, answers = collections.Counter(), collections.Counter(), collections.Counter()
@@ -172,12 +180,13 @@ def fuzz_entry(harness, host):
         longest = max(longest, (seconds, "%d cases from case %d on" % (len(batch), batch[0])))
         sorts.update(case[0] for case in cases)
         ways.update(case[1] for case in cases)
-        answers.update("answer %d" % n for n in right)
+        answers.update(answer_of(n, case[2]) for n, case in zip(right, cases))
     show("cases of each sort", sorts)
     show("positions", ways)
     show("answers", answers)
     print("longest run: %.2f s, %s" % longest, flush=True)
-    return missing(answers, ["answer %d" % n for n in [0, 1, *range(101, 111)]], options.cases)
+    wanted = ["answer %d" % n for n in [0, 1, *range(101, 111), 113]]
+    return missing(answers, wanted + ["answer %d beside inner acquires" % n for n in (0, 1)], options.cases)
 
 
 # Both under valgrind

@@ -8,5 +8,5 @@ case " $*" in *" --racereport"*) ;; *) (cd crates/racereport && rt run <stdin >/
 case " $*" in *" --archive"*) ;; *) (cd crates/host && rt lib) ;; esac
 mkdir -p target/fuzz
 cc -std=c99 -O2 -Wall -Wextra -Werror -o target/fuzz/reference tests/reference.c
-python3 tests/brute.py target/fuzz/reference 1000
+python3 tests/brute.py target/fuzz/reference 5000
 exec python3 tests/fuzz.py "$@"

@@ -4,7 +4,7 @@ Nothing here knows what a dump should be answered with."""
 import collections, random, struct
 
 READ, WRITE, ACQUIRE, RELEASE = 1, 2, 3, 4
-LOCKS = 200
+LOCKS, DEEPEST = 200, 255
 MEGABYTE = 1 << 20
 
 
@@ -23,7 +23,8 @@ def some_site(rng, manner, n):
 
 
 class Shape:
-    """How a made trace goes: who takes part, how often threads take turns, how much is guarded."""
+    """How a made trace goes: who takes part, how often threads take turns, how much is guarded, how often a
+    thread acquires a lock that it holds."""
 
     def __init__(self, rng, sparse=False):
         few = rng.random() < 0.7
@@ -33,6 +34,7 @@ class Shape:
         self.variables = rng.sample(range(1024), rng.randint(1, 4) if few and not sparse else many)
         self.switch = rng.choice([0.05, 0.2, 0.5, 1.0])
         self.locking = rng.choice([0.0, 0.15, 0.3, 0.5, 0.8])
+        self.again = rng.choice([0.0, 0.2, 0.5, 0.8])
         self.guarded = rng.choice([0.0, 0.5, 0.9])
         self.strict = rng.random() < 0.35  # (nearly) no access without a lock
         self.writing = rng.choice([0.02, 0.1]) if sparse else rng.choice([0.1, 0.3, 0.5, 1.0])
@@ -48,6 +50,11 @@ class Shape:
         return rng.choice(self.variables[place::len(self.locks)] or self.variables)
 
 
+def lock_to_acquire(rng, shape, mine):
+    """One of the locks that the thread holds, or any."""
+    return rng.choice(mine if mine and rng.random() < shape.again else shape.locks)
+
+
 def trace(rng, length, shape):
     """The records of an admitted trace: a list of eight bytes each."""
     holder, held, records = {}, {t: [] for t in shape.threads}, []
@@ -55,15 +62,17 @@ def trace(rng, length, shape):
     while len(records) < length:
         if rng.random() < shape.switch:
             thread = rng.choice(shape.threads)
-        mine, site = held[thread], some_site(rng, shape.sites, len(records))
+        site = some_site(rng, shape.sites, len(records))
+        mine = held[thread]  # a lock stands here once for each time that it is to be released
         bare = shape.strict and not mine and rng.random() > 0.01
         if mine and rng.random() < 0.6 * shape.locking:
             lock = mine.pop(-1 if rng.random() < 0.8 else rng.randrange(len(mine)))
-            del holder[lock]
+            if lock not in mine:
+                del holder[lock]
             records.append(record(RELEASE, thread, lock, site))
         elif bare or rng.random() < 0.5 * shape.locking:
-            lock = rng.choice(shape.locks)
-            if lock in holder:
+            lock = lock_to_acquire(rng, shape, mine)
+            if holder.get(lock, thread) != thread or mine.count(lock) == DEEPEST:
                 thread = holder[lock] if rng.random() < 0.5 else rng.choice(shape.threads)
                 continue
             holder[lock] = thread
@@ -177,19 +186,48 @@ def swapped(rng, _):
     return b"".join(records)
 
 
+def unused(rng, shape):
+    """A lock of which the shape knows nothing."""
+    return rng.choice([n for n in range(LOCKS) if n not in shape.locks])
+
+
+def mixed(rng, records, deeds):
+    """The records with the deeds somewhere among them, in their order."""
+    records, places = list(records), sorted(rng.randint(0, len(records)) for _ in deeds)
+    for place, deed in reversed(list(zip(places, deeds))):
+        records.insert(place, deed)
+    return records
+
+
 def bad_lock(rng, _):
     """An event that the trace check refuses, put somewhere into a trace, with one more lock in play."""
     shape = Shape(rng)
     shape.locks = shape.locks[:LOCKS - 1]
-    records, lock = trace(rng, rng.randint(0, 60), shape), rng.choice([n for n in range(LOCKS) if n not in shape.locks])
+    records, lock = trace(rng, rng.randint(0, 60), shape), unused(rng, shape)
     one, other = rng.sample(range(16), 2)
     a, z = (lambda t: record(ACQUIRE, t, lock, 1)), (lambda t: record(RELEASE, t, lock, 2))
-    deeds = rng.choice([[a(one), a(one)], [a(one), a(other)], [z(one)], [a(one), z(other)], [a(one), z(one), z(one)],
-                        [a(one), z(one), a(other), z(one)], [a(one), z(one), a(other), a(one)]])
-    places = sorted(rng.randint(0, len(records)) for _ in deeds)
-    for place, deed in reversed(list(zip(places, deeds))):
-        records.insert(place, deed)
-    return b"".join(records)
+    twice = [a(one), a(one)]
+    deeds = rng.choice([[a(one), a(other)], [z(one)], [a(one), z(other)], [a(one), z(one), z(one)],
+                        [a(one), z(one), a(other), z(one)], [a(one), z(one), a(other), a(one)],
+                        [*twice, a(other)], [*twice, z(one), a(other)], [*twice, z(one), z(other)],
+                        [*twice, z(one), z(one), z(one)], [*twice, z(one), z(one), a(other), a(one)]])
+    return b"".join(mixed(rng, records, deeds))
+
+
+def deep(rng, _):
+    """A thread goes into a lock as deep as can be, perhaps out a little and in again, and perhaps deeper; or others
+    try the lock then."""
+    shape = Shape(rng)
+    shape.locks = shape.locks[:LOCKS - 1]
+    records, lock, one, other = trace(rng, rng.randint(0, 60), shape), unused(rng, shape), *rng.sample(range(16), 2)
+    a, z = (lambda t: record(ACQUIRE, t, lock, 1)), (lambda t: record(RELEASE, t, lock, 2))
+    turns = rng.choice([0, 0, 1, rng.randint(1, DEEPEST)])
+    deeds = [a(one)] * DEEPEST + [z(one)] * turns + [a(one)] * turns
+    deeds += rng.choice([[], [], [], [z(one)] * rng.randint(1, DEEPEST), [z(one)] * DEEPEST + [a(other)],
+                         [a(one)], [a(one)], [a(one)], [a(one), a(other)], [a(other)], [z(other)]])
+    if rng.random() < 0.5:
+        return b"".join(mixed(rng, records, deeds))
+    return b"".join(records + deeds)
 
 
 def brim(rng, capacity):
@@ -210,14 +248,15 @@ def over(rng, capacity):
 
 def over_wrong(rng, capacity):
     """One record too many that is wrong in itself, which is found first; perhaps with more after it."""
-    records = trace(rng, capacity - 1, Shape(rng, sparse=True))
-    free = set(range(LOCKS)) - {r[2] for r in records if r[0] >= ACQUIRE} or {0}
-    lock = rng.choice(sorted(free))
-    records.append(record(ACQUIRE, 3, lock, 0))
+    depth, shape = rng.choice([1, 2, DEEPEST, DEEPEST]), Shape(rng, sparse=True)
+    shape.locks = shape.locks[:LOCKS - 1]
+    records, lock = trace(rng, capacity - depth, shape), unused(rng, shape)
+    again = [record(ACQUIRE, 3, lock, 0)]  # wrong in itself only in a hold that is as deep as can be
+    records += again * depth
     last = rng.choice([record(READ, 0, 0, 0)[:rng.randint(1, 7)], record(0, 0, 0, 0), record(READ, 16, 0, 0),
-                       record(WRITE, 0, 1024, 0), record(ACQUIRE, 0, LOCKS, 0), record(ACQUIRE, 3, lock, 0),
-                       record(RELEASE, 4, lock, 0), record(RELEASE, 3, lock, 0)])
-    tail = rng.randbytes(rng.randint(0, 40)) if len(last) == 8 else b""
+                       record(WRITE, 0, 1024, 0), record(ACQUIRE, 0, LOCKS, 0), record(ACQUIRE, 4, lock, 0),
+                       record(RELEASE, 4, lock, 0), record(RELEASE, 3, lock, 0)] + again * 6)
+    tail = rng.randbytes(rng.choice([0, 8, 16, rng.randint(0, 40)])) if len(last) == 8 else b""
     return b"".join(records) + last + tail
 
 
@@ -247,11 +286,11 @@ def huge(rng, _):
 
 
 # The sorts; how many of ten thousand dumps for the program, and of five thousand for the C entry, are of each
-SORTS = [(no_bytes, 5, 5), (random_bytes, 900, 150), (random_records, 900, 250), (short, 1900, 1600),
+SORTS = [(no_bytes, 5, 5), (random_bytes, 900, 150), (random_records, 850, 190), (short, 1800, 1500),
          (middling, 500, 1000), (long, 45, 300), (one_byte, 1100, 300), (one_bit, 500, 200), (one_field, 1000, 250),
          (cut, 800, 200), (inserted, 500, 100), (removed, 400, 100), (repeated, 400, 100), (swapped, 400, 100),
-         (bad_lock, 558, 150), (brim, 12, 60), (brim_damaged, 10, 20), (over, 20, 40), (over_wrong, 36, 45),
-         (crowded, 2, 20), (huge, 12, 10)]
+         (bad_lock, 558, 150), (deep, 150, 160), (brim, 12, 60), (brim_damaged, 10, 20), (over, 20, 40),
+         (over_wrong, 36, 45), (crowded, 2, 20), (huge, 12, 10)]
 FOR_PROGRAM, FOR_ENTRY = 1, 2
 
 
@@ -271,6 +310,16 @@ class Maker:
 
     def numbers(self, what, i):
         return random.Random("%s %d %s %d" % (self.seed, self.column, what, i))
+
+
+def has_inner(dump):
+    """Whether a record of an admitted dump acquires a lock that its thread is in."""
+    depths = collections.Counter()
+    for kind, thread, lock, _ in struct.iter_unpack("<BBHI", dump):
+        if kind == ACQUIRE and depths[thread, lock] > 0:
+            return True
+        depths[thread, lock] += (kind == ACQUIRE) - (kind == RELEASE)
+    return False
 
 
 def some_positions(rng, dump, capacity):

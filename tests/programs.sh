@@ -74,6 +74,15 @@ expect <(yes) 0 'refused 2 record 0' '' racereport
 expect /dev/null 0 'events 0
 pairs 0' '' racereport
 
+# a lock that its thread takes again and again: as deep as can be, once deeper, and then by another thread
+printf '\3\0\5\0\7\0\0\0%.0s' $(seq 255) >"$work/deep"
+{ cat "$work/deep" && printf '\3\0\5\0\7\0\0\0'; } >"$work/deeper"
+{ cat "$work/deep" && printf '\3\1\5\0\7\0\0\0'; } >"$work/held"
+expect "$work/deep" 0 'events 255
+pairs 0' '' racereport
+expect "$work/deeper" 0 'refused 13 record 255' '' racereport
+expect "$work/held" 0 'refused 5 record 255' '' racereport
+
 # as many records as there is room for; a byte more, a record more, and records without end, of which none is read but those that decide
 printf '\2\0\0\0\7\0\0\0%.0s' $(seq 64) >"$work/64"
 for part in $(seq 64); do cat "$work/64"; done >"$work/full"

@@ -19,7 +19,7 @@
 #include <stdlib.h>
 #include <string.h>
 
-enum { RECORD = 8, THREADS = 16, VARIABLES = 1024, LOCKS = 200 };
+enum { RECORD = 8, THREADS = 16, VARIABLES = 1024, LOCKS = 200, DEEPEST = 255 };
 enum { HOST = 4096, BOARD = 1024, MOST = HOST };
 enum { READ = 1, WRITE = 2, ACQUIRE = 3, RELEASE = 4 };
 enum { NONE = -1 };
@@ -29,17 +29,20 @@ struct event {
     uint32_t site;
 };
 
-/* A trace with the three lookups of each event: the position found, or NONE. */
+/* A trace with the three lookups of each event: the position found, or NONE. A release is looked up for outer
+ * acquires alone. */
 struct trace {
     int count, capacity;
     struct event event[MOST];
     int previous[MOST], last_write[MOST], release[MOST];
+    bool outer[MOST]; /* it acquires a lock that its thread is not in */
     /* the state at the end of the trace */
     int latest[THREADS], written[VARIABLES];
-    int holder[LOCKS], acquired[LOCKS];
+    int depth[THREADS][LOCKS]; /* how many more acquires than releases of the lock the thread has */
+    int acquired[LOCKS];       /* the last outer acquire of the lock */
 };
 
-/* A set of positions, and for each lock the latest of its acquires in the set. */
+/* A set of positions, and for each lock the latest of its outer acquires in the set. */
 struct set {
     bool has[MOST];
     int latest_acquire[LOCKS];
@@ -59,10 +62,36 @@ static void start(int capacity)
     trace.capacity = capacity;
     for (int i = 0; i < THREADS; i++) trace.latest[i] = NONE;
     for (int i = 0; i < VARIABLES; i++) trace.written[i] = NONE;
-    for (int i = 0; i < LOCKS; i++) trace.holder[i] = trace.acquired[i] = NONE;
+    for (int i = 0; i < LOCKS; i++) trace.acquired[i] = NONE;
+    memset(trace.depth, 0, sizeof trace.depth);
 }
 
-/* Puts one record through the checks 1 to 7 and takes its event in: 0, or the number of the first that fails. */
+/* The checks 5, 13 and 6 on an acquire or a release: 0, or the number of the one that fails. */
+static int lock_refusal(struct event e)
+{
+    int depth = trace.depth[e.thread][e.subject];
+    if (e.kind == RELEASE) return depth > 0 ? 0 : 6;
+    for (int other = 0; other < THREADS; other++)
+        if (other != e.thread && trace.depth[other][e.subject] > 0) return 5;
+    return depth < DEEPEST ? 0 : 13;
+}
+
+/* Takes in the acquire or the release at a position. */
+static void turn(int here)
+{
+    struct event e = trace.event[here];
+    int *depth = &trace.depth[e.thread][e.subject];
+    if (e.kind == ACQUIRE) {
+        trace.outer[here] = *depth == 0;
+        if (trace.outer[here]) trace.acquired[e.subject] = here;
+        ++*depth;
+    } else if (--*depth == 0) { /* it frees the lock */
+        trace.release[trace.acquired[e.subject]] = here;
+    }
+}
+
+/* Puts one record through the checks 1 to 4, those of locks and 7, and takes its event in: 0, or the number of the
+ * first that fails. */
 static int enter(const uint8_t *bytes, size_t length)
 {
     if (length < RECORD) return 1;
@@ -72,8 +101,8 @@ static int enter(const uint8_t *bytes, size_t length)
     if (e.thread >= THREADS) return 3;
     bool access = e.kind == READ || e.kind == WRITE;
     if (e.subject >= (access ? VARIABLES : LOCKS)) return 4;
-    if (e.kind == ACQUIRE && trace.holder[e.subject] != NONE) return 5;
-    if (e.kind == RELEASE && trace.holder[e.subject] != e.thread) return 6;
+    int refusal = access ? 0 : lock_refusal(e);
+    if (refusal != 0) return refusal;
     if (trace.count == trace.capacity) return 7;
 
     int here = trace.count++;
@@ -81,16 +110,10 @@ static int enter(const uint8_t *bytes, size_t length)
     trace.previous[here] = trace.latest[e.thread];
     trace.last_write[here] = e.kind == READ ? trace.written[e.subject] : NONE;
     trace.release[here] = NONE;
+    trace.outer[here] = false;
     trace.latest[e.thread] = here;
     if (e.kind == WRITE) trace.written[e.subject] = here;
-    if (e.kind == ACQUIRE) {
-        trace.holder[e.subject] = e.thread;
-        trace.acquired[e.subject] = here;
-    }
-    if (e.kind == RELEASE) {
-        trace.release[trace.acquired[e.subject]] = here;
-        trace.holder[e.subject] = NONE;
-    }
+    if (!access) turn(here);
     return 0;
 }
 
@@ -119,7 +142,8 @@ static void clear(struct set *set)
 }
 
 /* Takes a position into a closed set, and all that must come with it so that it is closed again: with an
- * event its previous one, with a read its last write, and of two acquires of a lock the release of the earlier. */
+ * event its previous one, with a read its last write, and of two outer acquires of a lock the release of the
+ * earlier. */
 static void take(struct set *set, int seed)
 {
     static int waiting[1 + 3 * MOST]; /* each position taken puts at most three others here */
@@ -131,7 +155,7 @@ static void take(struct set *set, int seed)
         set->has[at] = true;
         waiting[n++] = trace.previous[at];
         waiting[n++] = trace.last_write[at];
-        if (trace.event[at].kind == ACQUIRE) {
+        if (trace.outer[at]) {
             int *latest = &set->latest_acquire[trace.event[at].subject];
             int earlier = at < *latest ? at : *latest;
             if (at > *latest) *latest = at;

@@ -21,7 +21,7 @@ use Rattle.session.specs.Races.Witnessed.{no_race as no_witness, written}
 use Rattle.session.proofs.Asked.{asked, scheduled_by}
 use Rattle.session.proofs.Racing.{races_by}
 use Rattle.cases.specs.Cases.{Judges, FindsUnordered, FindsSchedulable, Writes, WitnessRefuses, RacesBy}
-use Rattle.predict.proofs.RuleTests.{Test, some_in, either, read_test, lock_test, before_acquire, unlocks, sync_decided, happens_before_decided, schedulable_decided}
+use Rattle.predict.proofs.RuleTests.{Test, some_in, either, read_test, lock_test, before_acquire, frees_here, sync_decided, happens_before_decided, schedulable_decided}
 use Rattle.cases.proofs.Closing.{with_earlier, closes, closure_by}
 
 -- the tests of the three rules
@@ -29,7 +29,7 @@ abbrev pub sync_test : Test
 sync_test = either (some_in read_test) lock_test
 
 abbrev pub happens_before_test : Test
-happens_before_test = some_in (before_acquire unlocks)
+happens_before_test = some_in (before_acquire frees_here)
 
 abbrev pub schedulable_test : Test
 schedulable_test = either happens_before_test (some_in read_test)

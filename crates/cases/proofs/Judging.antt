@@ -1,4 +1,4 @@
--- The answers on the six traces.
+-- The answers on the seven traces.
 use Rattle.std.proofs.Common.{◌≡◌, ℕ, ◌<◌, true, false, [], ◌∷◌, ◌++◌, refl}
 use Rattle.std.proofs.lemmas.Bool.{lt-ltb}
 use Rattle.trace.specs.declared.kind.Kind.TheVariants.{Release}
@@ -6,8 +6,8 @@ use Rattle.trace.specs.Records.{record_of}
 use Rattle.trace.specs.Traces.{Admits}
 use Rattle.trace.proofs.Records.{record_means}
 use Rattle.session.specs.Entries.{enter}
-use Rattle.cases.specs.Examples.{event, sections_between, writes_locked, read_between, through_section, one_locked}
-use Rattle.cases.specs.Cases.{taken, AllAdmitted, SectionsRace, SectionsOrdered, LockedNoRace, ReadNoRace, ReadRaces, ChainNoRace, OneLockedRaces}
+use Rattle.cases.specs.Examples.{event, sections_between, writes_locked, read_between, through_section, one_locked, inner_section}
+use Rattle.cases.specs.Cases.{taken, AllAdmitted, SectionsRace, SectionsOrdered, LockedNoRace, ReadNoRace, ReadRaces, ChainNoRace, OneLockedRaces, InnerSection}
 use Rattle.cases.proofs.Asking.{judges_none, refuses_witness, unordered_or_not, schedulable_or_not, races_as}
 use Rattle.cases.proofs.Sweeping.{three_admitted}
 
@@ -58,8 +58,17 @@ chain_no_race = (
 pub open_admitted : Admits one_locked
 open_admitted = (refl, (refl, (refl, tt)))
 
+pub inner_admitted : Admits inner_section
+inner_admitted = (refl, (refl, (refl, (refl, (refl, (refl, (refl, (refl, tt))))))))
+
+pub inner_races : InnerSection
+inner_races = (
+  judges_none inner_section 3 7 inner_admitted refl (4 ∷ 6 ∷ 2 ∷ []) refl refl,
+  races_as inner_section 3 5 inner_admitted refl (2 ∷ []) refl refl,
+)
+
 pub all_admitted : AllAdmitted
-all_admitted = (sections_admitted, locked_admitted, read_admitted, chain_admitted, three_admitted, open_admitted)
+all_admitted = (sections_admitted, locked_admitted, read_admitted, chain_admitted, three_admitted, open_admitted, inner_admitted)
 
 -- the release of the lock that is held
 release_entered : (room : ℕ) → 3 < room → enter room one_locked (record_of (event Release 0 0 tt tt)) ≡ taken one_locked (event Release 0 0 tt tt)

@@ -6,7 +6,7 @@ use Rattle.trace.specs.declared.kind.Kind.{Kind}
 use Rattle.trace.specs.declared.kind.Kind.TheVariants.{Read, Write, Acquire, Release}
 use Rattle.trace.specs.Limits.{locks}
 use Rattle.trace.specs.Records.{number, record_of}
-use Rattle.trace.specs.Traces.{Admits, Allowed, holders_after}
+use Rattle.trace.specs.Traces.{Admits, Allowed, depth, standing_after}
 use Rattle.reel.specs.Boards.{board_room}
 use Rattle.answer.specs.declared.fault.Layer.{Layer}
 use Rattle.answer.specs.declared.fault.Layer.TheVariants.{Record, Trace, Reel}
@@ -22,7 +22,7 @@ use Rattle.answer.specs.Verdicts.{witness_number}
 use Rattle.session.specs.Entries.{Outcome, enter, load}
 use Rattle.session.specs.Questions.{Answers, Unordered, Schedulable, Vetted}
 use Rattle.session.specs.Races.{Races, Judged, Witness, Witnessed, pair, SweepOf, Swept}
-use Rattle.cases.specs.Examples.{event, sections_between, writes_locked, read_between, through_section, three_accesses, one_locked}
+use Rattle.cases.specs.Examples.{event, sections_between, writes_locked, read_between, through_section, three_accesses, one_locked, inner_section}
 
 -- Judge answers with a verdict
 abbrev pub Judges : List Event → ℕ → ℕ → Verdict → Type 0
@@ -66,10 +66,11 @@ refused t n layer i = record { answer = Err (record { number = n; layer = layer;
 abbrev pub taken : List Event → Event → Outcome (Unit {0})
 taken t e = record { answer = Ok tt; events = t ++ (e ∷ []) }
 
--- the trace check admits the six traces
+-- the trace check admits the seven traces
 abbrev pub AllAdmitted : Type 0
 AllAdmitted =
     Admits sections_between × Admits writes_locked × Admits read_between × Admits through_section × Admits three_accesses × Admits one_locked
+    × Admits inner_section
 
 -- the sections between the two writes do not keep them from racing, and the witness is the section of the second thread
 abbrev pub SectionsRace : Type 0
@@ -119,6 +120,11 @@ OneLockedRaces =
     let e = event Release 0 0 tt tt in
     OpenRaces one_locked × ((room : ℕ) → 3 < room → enter room one_locked (record_of e) ≡ taken one_locked e) × OpenRaces (one_locked ++ (e ∷ []))
 
+-- the inner release leaves the first thread in the lock, so its write does not race with the one in the other section; and the inner acquire wants
+-- nothing, so it races with the write before that
+abbrev pub InnerSection : Type 0
+InnerSection = Judges inner_section 3 7 NoRace × RacesBy inner_section 3 5 (0 ∷ 1 ∷ 2 ∷ [])
+
 -- Vet says yes to the witness, and no to its events in the other order and to less than all of it
 abbrev pub WitnessVetted : Type 0
 WitnessVetted =
@@ -129,14 +135,21 @@ WitnessVetted =
 abbrev pub bytes_of : Kind → ℕ → List ℕ
 bytes_of kind subject = number kind ∷ 0 ∷ (subject % 256) ∷ (subject / 256) ∷ 0 ∷ 0 ∷ 0 ∷ 0 ∷ []
 
--- 0a0 is entered; then the record of 1z0 is refused with 6, and that of 0a0 with 5
-abbrev pub LocksRefused : Type 0
-LocksRefused =
+-- 0a0 is entered; then the record of 1z0 is refused with 6, that of 1a0 with 5, and that of 0a0 is taken
+abbrev pub LocksByHolder : Type 0
+LocksByHolder =
     let e = event Acquire 0 0 tt tt in
     let t = e ∷ [] in
     (room : ℕ)
     → (0 < room → enter room [] (record_of e) ≡ taken [] e) × (enter room t (record_of (event Release 1 0 tt tt)) ≡ refused t 6 Trace 0)
-    × (enter room t (record_of e) ≡ refused t 5 Trace 0)
+    × (enter room t (record_of (event Acquire 1 0 tt tt)) ≡ refused t 5 Trace 0) × (1 < room → enter room t (record_of e) ≡ taken t e)
+
+-- where thread 0 is 254 deep in lock 0 its acquire is taken, and where it is 255 deep it is refused with 13
+abbrev pub LocksDeep : Type 0
+LocksDeep =
+    let e = event Acquire 0 0 tt tt in
+    (room : ℕ) (t : List Event) → Admits t
+    → (length t < room → depth 0 0 t ≡ 254 → enter room t (record_of e) ≡ taken t e) × (depth 0 0 t ≡ 255 → enter room t (record_of e) ≡ refused t 13 Trace 0)
 
 -- of three events, Judge of a pair with position 3 is refused with 8, and one of position 2 twice with 9
 abbrev pub PairsRefused : Type 0
@@ -165,5 +178,5 @@ DumpLengths =
 -- over a board reel, an event that the trace check allows is taken as the 1,024th, and one that it allows then is refused with 7
 abbrev pub LastRoom : Type 0
 LastRoom =
-    (t : List Event) (e f : Event) → length t ≡ 1023 → Allowed (holders_after t) e → let u = t ++ (e ∷ []) in Allowed (holders_after u) f
+    (t : List Event) (e f : Event) → length t ≡ 1023 → Allowed (standing_after t) e → let u = t ++ (e ∷ []) in Allowed (standing_after u) f
     → (enter board_room t (record_of e) ≡ taken t e) × (enter board_room u (record_of f) ≡ refused u 7 Reel 0)

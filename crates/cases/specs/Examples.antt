@@ -1,4 +1,4 @@
--- Six small traces. In the comments an event is its thread, a letter and its subject: w writes a variable, r reads one, a acquires a lock and
+-- Seven small traces. In the comments an event is its thread, a letter and its subject: w writes a variable, r reads one, a acquires a lock and
 -- z releases one. All events are at site 0.
 use Rattle.std.specs.Prelude.{ℕ, T, List, [], ◌∷◌, nat_lt}
 use Rattle.std.proofs.Common.{lit<}
@@ -42,3 +42,9 @@ three_accesses = event Write 0 0 tt tt ∷ event Read 1 0 tt tt ∷ event Write 
 -- 0a0 0w0 1w0: a write under a lock and one without
 abbrev pub one_locked : List Event
 one_locked = event Acquire 0 0 tt tt ∷ event Write 0 0 tt tt ∷ event Write 1 0 tt tt ∷ []
+
+-- 0a0 0a0 0z0 0w0 0z0 1w0 1a0 1w0: a thread takes a lock again, and writes after it has given it back once; another writes before and inside a section
+abbrev pub inner_section : List Event
+inner_section =
+    event Acquire 0 0 tt tt ∷ event Acquire 0 0 tt tt ∷ event Release 0 0 tt tt ∷ event Write 0 0 tt tt ∷ event Release 0 0 tt tt
+    ∷ event Write 1 0 tt tt ∷ event Acquire 1 0 tt tt ∷ event Write 1 0 tt tt ∷ []

@@ -167,12 +167,45 @@ fn one_locked(rt: HostRuntime) -> Result<(), Fail> {
     asks_one_locked(&rt, HostReel::over(&mut [0; 32]))
 }
 
+fn asks_inner_section<R: Reel + Drop>(rt: &impl Abort, reel: R) -> Result<(), Fail> {
+    let session = session_over(reel, "0a0 0a0 0z0 0w0 0z0 1w0 1a0 1w0")?;
+    assert_eq!(rt; session.judge(3, 7), Ok(Verdict::NoRace));
+    assert_eq!(rt; session.judge(3, 5), Ok(Verdict::Race));
+    let mut buffer = [9; 4];
+    assert_eq!(rt; session.witness(3, 5, &mut buffer), Ok(3));
+    assert_eq!(rt; buffer, [0, 1, 2, 9]);
+    Ok(())
+}
+
+#[test]
+fn inner_section(rt: HostRuntime) -> Result<(), Fail> {
+    asks_inner_section(&rt, BoardReel::new())?;
+    asks_inner_section(&rt, HostReel::over(&mut [0; 64]))
+}
+
+#[test]
+fn deepest_hold(rt: HostRuntime) -> Result<(), Fail> {
+    let mut session = Session::open(BoardReel::new());
+    for _ in 0..u8::MAX {
+        session.enter(&record_of("0a0")?)?;
+    }
+    let deep = Some((13, Layer::Trace, 0));
+    assert_eq!(rt; refused(session.enter(&record_of("0a0")?)), deep);
+    assert_eq!(rt; session.count(), usize::from(u8::MAX));
+    for _ in 0..u8::MAX {
+        session.enter(&record_of("0z0")?)?;
+    }
+    assert_eq!(rt; refused(session.enter(&record_of("1a0")?)), None);
+    Ok(())
+}
+
 fn enters_at_the_limits<R: Reel + Drop>(rt: &impl Abort, reel: R) -> Result<(), Fail> {
     let mut session = session_over(reel, "0a0")?;
     let locked = Some((6, Layer::Trace, 0));
     assert_eq!(rt; refused(session.enter(&record_of("1z0")?)), locked);
     let held = Some((5, Layer::Trace, 0));
-    assert_eq!(rt; refused(session.enter(&record_of("0a0")?)), held);
+    assert_eq!(rt; refused(session.enter(&record_of("1a0")?)), held);
+    assert_eq!(rt; refused(session.enter(&record_of("0a0")?)), None);
     assert_eq!(rt; refused(session.enter(&record(Kind::Read, 0, 1023))), None);
     assert_eq!(rt; refused(session.enter(&record(Kind::Write, 0, 1023))), None);
     assert_eq!(rt;
@@ -190,14 +223,14 @@ fn enters_at_the_limits<R: Reel + Drop>(rt: &impl Abort, reel: R) -> Result<(), 
         refused(session.enter(&record(Kind::Release, 0, LOCKS))),
         past
     );
-    assert_eq!(rt; session.count(), 4);
+    assert_eq!(rt; session.count(), 5);
     Ok(())
 }
 
 #[test]
 fn limits_of_records(rt: HostRuntime) -> Result<(), Fail> {
     enters_at_the_limits(&rt, BoardReel::new())?;
-    enters_at_the_limits(&rt, HostReel::over(&mut [0; 32]))
+    enters_at_the_limits(&rt, HostReel::over(&mut [0; 40]))
 }
 
 fn loads_by_length<R: Reel + Drop>(rt: &impl Abort, reel: R) {

@@ -10,12 +10,32 @@ use trace::event::Event;
 use trace::kind::Kind;
 use trace::limits::LOCKS;
 
+/// How many events more than the fewest a trace may have.
+const MORE: u8 = 3;
+
+/// How traces are drawn.
+#[derive(Clone, Copy)]
+pub(crate) struct Manner {
+    /// How many events a trace has at least.
+    pub(crate) least: u8,
+    /// Of eight events so many are accesses on average.
+    pub(crate) accesses: u8,
+}
+
+impl Manner {
+    /// How many events a trace has at most.
+    pub(crate) fn most(&self) -> u8 {
+        self.least.saturating_add(MORE)
+    }
+}
+
 // numbers of its own, so that what is printed stays the same
-/// A linear congruential generator, the shape of what it draws, and the thread that is at work.
+/// A linear congruential generator, the shape of what it draws, the manner, and the thread that is at work.
 #[derive(Drop)]
 struct Generator {
     state: u64,
     shape: Shape,
+    manner: Manner,
     thread: u8,
 }
 
@@ -54,39 +74,46 @@ impl Generator {
         event(kind, thread, u16::from(variable))
     }
 
-    /// The release of one of the last locks by its holder, or where it is free, an acquire.
+    /// An acquire of one of the last locks; where a thread holds it, by that thread, or in three of five cases a release.
     fn turn(&mut self, trace: &Trace) -> anyhow::Result<Event> {
         let lock = (LOCKS - 1).saturating_sub(u16::from(self.below(self.shape.locks)));
         match holder_of(trace.steps(), lock) {
-            Some(holder) => event(Kind::Release, holder, lock),
+            Some(holder) if self.below(5) < 3 => event(Kind::Release, holder, lock),
+            Some(holder) => event(Kind::Acquire, holder, lock),
             None => event(Kind::Acquire, self.thread(), lock),
         }
     }
 
-    /// An event that the trace check admits after the trace: five in eight are accesses.
+    /// An event that the trace check admits after the trace.
     fn next_event(&mut self, trace: &Trace) -> anyhow::Result<Event> {
-        if self.below(8) < 5 {
+        if self.below(8) < self.manner.accesses {
             self.access()
         } else {
             self.turn(trace)
         }
     }
 
-    /// A trace of 8 to 11 events.
+    /// A trace.
     fn trace(&mut self, heap: Global) -> anyhow::Result<Trace> {
         let mut trace = Trace::new(heap);
-        for _ in 0..8 + self.below(4) {
+        for _ in 0..self.manner.least.saturating_add(self.below(MORE + 1)) {
             trace.extend(self.next_event(&trace)?)?;
         }
         Ok(trace)
     }
 }
 
-/// Compares on so many traces of the shape, each of 8 to 11 events.
-pub(crate) fn compare_drawn(heap: Global, shape: Shape, traces: u64) -> anyhow::Result<Tally> {
+/// Compares on so many traces of the shape, drawn in the manner.
+pub(crate) fn compare_drawn(
+    heap: Global,
+    shape: Shape,
+    manner: Manner,
+    traces: u64,
+) -> anyhow::Result<Tally> {
     let mut generator = Generator {
         state: 1,
         shape,
+        manner,
         thread: 0,
     };
     let mut tally = Tally::default();

@@ -29,11 +29,14 @@ const EXHAUSTIVE: Program = Program {
 fn carry_out_all(rt: &HostRuntime) -> anyhow::Result<Tally> {
     let plans = [
         Plan::of(Choice::All { most: 7 }, 2, 1, 1),
+        Plan::of(Choice::All { most: 5 }, 2, 1, 2),
         Plan::of(Choice::All { most: 5 }, 2, 2, 1),
         Plan::of(Choice::All { most: 6 }, 3, 1, 1),
         Plan::of(Choice::All { most: 5 }, 3, 2, 1),
-        Plan::of(Choice::Drawn { traces: 5000 }, 3, 2, 2),
-        Plan::of(Choice::Drawn { traces: 5000 }, 4, 3, 2),
+        Plan::of(Choice::drawn(3000, 8, 5), 3, 2, 2),
+        Plan::of(Choice::drawn(500, 8, 5), 4, 3, 2),
+        Plan::of(Choice::drawn(1000, 10, 3), 3, 1, 1),
+        Plan::of(Choice::drawn(1000, 12, 4), 2, 1, 2),
     ];
     let mut total = Tally::default();
     for plan in &plans {

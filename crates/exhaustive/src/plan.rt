@@ -1,6 +1,6 @@
 //! Which traces are tried.
 use crate::all::compare_all;
-use crate::drawn::compare_drawn;
+use crate::drawn::{Manner, compare_drawn};
 use crate::shape::Shape;
 use crate::tally::Tally;
 use std::alloc::Global;
@@ -10,8 +10,18 @@ use std::alloc::Global;
 pub(crate) enum Choice {
     /// All with at most so many events.
     All { most: usize },
-    /// So many, drawn by the generator.
-    Drawn { traces: u64 },
+    /// So many, drawn by the generator in this manner.
+    Drawn { traces: u64, manner: Manner },
+}
+
+impl Choice {
+    /// So many, each of at least so many events, of which so many in eight are accesses.
+    pub(crate) fn drawn(traces: u64, least: u8, accesses: u8) -> Choice {
+        Choice::Drawn {
+            traces,
+            manner: Manner { least, accesses },
+        }
+    }
 }
 
 /// Traces that are tried together.
@@ -38,7 +48,7 @@ impl Plan {
     pub(crate) fn carry_out(&self, heap: Global) -> anyhow::Result<Tally> {
         match self.choice {
             Choice::All { most } => compare_all(heap, self.shape, most),
-            Choice::Drawn { traces } => compare_drawn(heap, self.shape, traces),
+            Choice::Drawn { traces, manner } => compare_drawn(heap, self.shape, manner, traces),
         }
     }
 }

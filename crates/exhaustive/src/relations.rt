@@ -1,13 +1,12 @@
 //! Happens-before and schedulable happens-before, by plain reachability.
 use crate::steps::Step;
 use std::alloc::{AllocError, Global};
-use trace::kind::Kind;
 
 /// Whether happens-before puts the earlier of two events directly before the later one.
 pub(crate) fn happens_before(earlier: &Step, later: &Step) -> bool {
     let in_thread = earlier.event.thread == later.event.thread;
-    let by_lock = earlier.event.kind == Kind::Release
-        && later.event.kind == Kind::Acquire
+    let by_lock = earlier.is_freeing_release()
+        && later.is_outer_acquire()
         && earlier.event.subject == later.event.subject;
     in_thread || by_lock
 }

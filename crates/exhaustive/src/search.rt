@@ -40,7 +40,7 @@ pub(crate) struct Finding {
 
 impl Finding {
     /// Whether the list leaves both events enabled.
-    fn is_enabled(&self, list: &[Step]) -> bool {
+    pub(crate) fn is_enabled(&self, list: &[Step]) -> bool {
         self.first.is_enabled(list) && self.second.is_enabled(list)
     }
 

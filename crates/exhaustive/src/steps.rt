@@ -11,21 +11,42 @@ pub(crate) struct Step {
     pub(crate) event: Event,
     /// How many events of its thread stand before it.
     pub(crate) rank: usize,
+    /// Of an acquire or a release, how deep its thread is in the lock before it.
+    pub(crate) depth: usize,
     /// Of a read, where its last write stands, if it has one.
     pub(crate) last_write: Option<u16>,
 }
 
 impl Step {
+    /// Whether it acquires a lock that its thread is not in.
+    pub(crate) fn is_outer_acquire(&self) -> bool {
+        self.event.kind == Kind::Acquire && self.depth == 0
+    }
+
+    /// Whether it is a release that frees its lock.
+    pub(crate) fn is_freeing_release(&self) -> bool {
+        self.event.kind == Kind::Release && self.depth == 1
+    }
+
+    /// Whether it is an inner acquire or an inner release.
+    pub(crate) fn is_inner(&self) -> bool {
+        match self.event.kind {
+            Kind::Acquire => !self.is_outer_acquire(),
+            Kind::Release => !self.is_freeing_release(),
+            Kind::Read | Kind::Write => false,
+        }
+    }
+
     /// Whether a read reads after the list what it read in the trace.
     fn reads_the_same(&self, list: &[Step]) -> bool {
         self.event.kind != Kind::Read || latest_write(list, self.event.subject) == self.last_write
     }
 
-    /// Whether an acquire stands after the list in trace order among the acquires of its lock.
+    /// Whether an outer acquire stands after the list in trace order among the outer acquires of its lock.
     fn keeps_order(&self, list: &[Step]) -> bool {
-        self.event.kind != Kind::Acquire
+        !self.is_outer_acquire()
             || !list.iter().any(|earlier| {
-                earlier.event.kind == Kind::Acquire
+                earlier.is_outer_acquire()
                     && earlier.event.subject == self.event.subject
                     && earlier.position > self.position
             })
@@ -61,19 +82,36 @@ fn latest_write(list: &[Step], variable: u16) -> Option<u16> {
         .map(|step| step.position)
 }
 
-/// Who holds the lock after the events of the list: whoever the latest acquire or release of it lets hold it.
+/// How often the thread turns the lock in the list by an event of the kind.
+fn turns_of(list: &[Step], kind: Kind, thread: u8, lock: u16) -> usize {
+    list.iter()
+        .filter(|step| step.event.kind == kind
+            && step.event.thread == thread
+            && step.event.subject == lock)
+        .count()
+}
+
+/// How deep the thread is in the lock after the events of the list: how often it acquired the lock and did not release it again.
+fn depth_of(list: &[Step], thread: u8, lock: u16) -> usize {
+    let acquires = turns_of(list, Kind::Acquire, thread, lock);
+    acquires.saturating_sub(turns_of(list, Kind::Release, thread, lock))
+}
+
+/// Who holds the lock after the events of the list: whoever acquired or released it last, if that thread is still in it.
 pub(crate) fn holder_of(list: &[Step], lock: u16) -> Option<u8> {
     list.iter()
         .rev()
         .find(|step| !step.event.kind.is_access() && step.event.subject == lock)
-        .filter(|step| step.event.kind == Kind::Acquire)
         .map(|step| step.event.thread)
+        .filter(|thread| depth_of(list, *thread, lock) > 0)
 }
 
-/// Whether the trace check admits the event after the events of the list.
+/// Whether the trace check admits the event after the events of the list, which are fewer than it takes to hold a lock too deep.
 pub(crate) fn is_admitted(list: &[Step], event: &Event) -> bool {
     match event.kind {
-        Kind::Acquire => holder_of(list, event.subject).is_none(),
+        Kind::Acquire => {
+            holder_of(list, event.subject).is_none_or(|holder| holder == event.thread)
+        }
         Kind::Release => holder_of(list, event.subject) == Some(event.thread),
         Kind::Read | Kind::Write => true,
     }
@@ -109,6 +147,7 @@ impl Trace {
     pub(crate) fn extend(&mut self, event: Event) -> anyhow::Result<()> {
         let position = u16::try_from(self.steps.len())?;
         let rank = count_of(self.steps(), event.thread);
+        let depth = depth_of(self.steps(), event.thread, event.subject);
         let last_write = match event.kind {
             Kind::Read => latest_write(self.steps(), event.subject),
             Kind::Write | Kind::Acquire | Kind::Release => None,
@@ -117,6 +156,7 @@ impl Trace {
             position,
             event,
             rank,
+            depth,
             last_write,
         })?;
         Ok(())

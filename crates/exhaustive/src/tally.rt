@@ -8,6 +8,8 @@ use std::ops::AddAssign;
 #[derive(Default, Drop)]
 pub(crate) struct Tally {
     pub(crate) traces: u64,
+    /// How many inner acquires and inner releases the traces have.
+    pub(crate) inner: u64,
     pub(crate) pairs: u64,
     pub(crate) races: u64,
     pub(crate) reorderings: u64,
@@ -20,6 +22,7 @@ pub(crate) struct Tally {
 impl Tally {
     /// Counts what a search has tried.
     pub(crate) fn count(&mut self, search: &Search<'_>) {
+        let inner = search.trace.iter().filter(|step| step.is_inner()).count();
         let pairs = search.findings.len();
         let races = search
             .findings
@@ -27,6 +30,7 @@ impl Tally {
             .filter(|finding| finding.is_race())
             .count();
         self.traces = self.traces.saturating_add(1);
+        self.inner = self.inner.saturating_add(inner as u64);
         self.reorderings = self.reorderings.saturating_add(search.reorderings);
         self.pairs = self.pairs.saturating_add(pairs as u64);
         self.races = self.races.saturating_add(races as u64);
@@ -53,6 +57,7 @@ impl Tally {
 impl AddAssign for Tally {
     fn add_assign(&mut self, other: Tally) {
         self.traces = self.traces.saturating_add(other.traces);
+        self.inner = self.inner.saturating_add(other.inner);
         self.pairs = self.pairs.saturating_add(other.pairs);
         self.races = self.races.saturating_add(other.races);
         self.reorderings = self.reorderings.saturating_add(other.reorderings);

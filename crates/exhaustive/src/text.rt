@@ -1,16 +1,30 @@
 //! What is printed.
+use crate::drawn::Manner;
 use crate::plan::{Choice, Plan};
 use crate::steps::{Step, Trace};
 use crate::tally::Tally;
 use std::fmt;
 use trace::kind::Kind;
 
+/// How traces are drawn.
+impl fmt::Display for Manner {
+    fn fmt<W: fmt::Write>(&self, f: &mut fmt::Formatter<W>) -> fmt::Result {
+        let least = self.least;
+        let most = self.most();
+        write!(
+            f,
+            "of {least} to {most} events, {} in 8 accesses",
+            self.accesses
+        )
+    }
+}
+
 /// Which traces are tried.
 impl fmt::Display for Choice {
     fn fmt<W: fmt::Write>(&self, f: &mut fmt::Formatter<W>) -> fmt::Result {
         match self {
             Choice::All { most } => write!(f, "all of 1 to {most} events"),
-            Choice::Drawn { .. } => write!(f, "drawn, of 8 to 11 events"),
+            Choice::Drawn { manner, .. } => write!(f, "drawn, {manner}"),
         }
     }
 }
@@ -31,8 +45,14 @@ impl fmt::Display for Tally {
     fn fmt<W: fmt::Write>(&self, f: &mut fmt::Formatter<W>) -> fmt::Result {
         write!(
             f,
-            "traces {}, pairs {}, races {}, reorderings {}, answers {}, differences {}",
-            self.traces, self.pairs, self.races, self.reorderings, self.answers, self.differences
+            "traces {}, inner {}, pairs {}, races {}, reorderings {}, answers {}, differences {}",
+            self.traces,
+            self.inner,
+            self.pairs,
+            self.races,
+            self.reorderings,
+            self.answers,
+            self.differences
         )
     }
 }

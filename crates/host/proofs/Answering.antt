@@ -66,7 +66,7 @@ two_race =
 
     wants_none : (w : ℕ) → SyncWants t (λ k. false) w → In w (λ k. false)
     wants_none w (last_write i l) = absurd (false≢true i)
-    wants_none w (earlier_release i l h j k m n o r) = absurd (false≢true i)
+    wants_none w (earlier_release i l h j k m n) = absurd (false≢true i)
 
 pub race_dump : RaceDump
 unfolding native.Mathlib.Decide.dec_lt

@@ -3,6 +3,7 @@ use crate::input::bytes_of;
 use answer::verdict::RacePair;
 use anyhow::{Context, anyhow, bail, ensure};
 use program::ROOM;
+use reel::MOST_EVENTS;
 use replies::told_in;
 use run::Call;
 use std::alloc::Global;
@@ -12,14 +13,11 @@ use trace::record::RECORD;
 /// The base of the bytes in a script.
 const HEXADECIMAL: u32 = 16;
 
-/// How many positions a trace of any reel has at most.
-const POSITIONS: usize = u16::MAX as usize;
-
 /// How many pairs there are of as many events as there is room for.
 const PAIRS: usize = ROOM * (ROOM - 1) / 2;
 
 /// How many bytes a dump has at most that `load` reads from a file: the records of as many events as any reel has room for.
-const LONGEST_DUMP: u32 = (RECORD * POSITIONS) as u32;
+const LONGEST_DUMP: u32 = (RECORD * MOST_EVENTS) as u32;
 
 /// What a buffer of pairs is filled with before the call.
 const NO_PAIR: RacePair = RacePair {
@@ -116,12 +114,12 @@ fn call(name: &str, mut arguments: Arguments<'_>) -> anyhow::Result<Call> {
         "witness" => Call::Witness {
             p: arguments.number()?,
             q: arguments.number()?,
-            buffer: arguments.buffer(0u16, POSITIONS)?,
+            buffer: arguments.buffer(0u16, MOST_EVENTS)?,
             answer: None,
         },
         "partners" => Call::Partners {
             q: arguments.number()?,
-            buffer: arguments.buffer(0u16, POSITIONS)?,
+            buffer: arguments.buffer(0u16, MOST_EVENTS)?,
             answer: None,
         },
         "sweep" => Call::Sweep {

@@ -1,20 +1,19 @@
--- What an iterator's search finds: the latest event before a position, and the earliest from a position on.
-use Rattle.std.proofs.Common.{◌≡◌, ℕ, zero, suc, ◌+◌, ◌-◌, ◌<◌, ◌≤◌, Bool, true, false, cond, List, [], ◌∷◌, length, Some, None, Option, Bor, sym, refl, ap, ◌∙◌, ap₂, subst, add-one, arith}
+-- What an iterator's search finds: the latest event before a position.
+use Rattle.std.proofs.Common.{◌≡◌, ℕ, zero, suc, ◌+◌, ◌-◌, ◌<◌, ◌≤◌, Bool, true, false, cond, eqb, ◌&&◌, List, [], ◌∷◌, length, Some, None, Option, Bor, sym, refl, ap, ◌∙◌, subst, add-one, arith}
 use Rattle.std.specs.Fn.{Mut, CalledAt}
 use Rattle.std.specs.Iterator.{FindsItem}
 use Rattle.std.specs.Iterator.Adapters.{rev_steps}
 use Rattle.std.specs.declared.ops.Range.{Range}
 use Rattle.std.specs.declared.iter.Rev.{Rev}
-use Rattle.std.proofs.iter.Yields.{nat_range_steps}
 use Rattle.std.proofs.iter.runs.Sources.{nat_range_steps_back}
 use Rattle.std.specs.List.{FoldsTo}
 use Rattle.std.specs.List.{slice_get}
-use Rattle.std.proofs.lemmas.Bool.{cond-true, cond-false}
-use Rattle.std.proofs.lemmas.Option.{slice_get_past}
+use Rattle.std.proofs.lemmas.Bool.{cond-true, cond-false, eq-eqb, ne_eqb}
 use Rattle.trace.specs.declared.event.Event.{Event}
-use Rattle.trace.specs.declared.kind.Kind.TheVariants.{Read}
-use Rattle.trace.specs.Traces.{At}
-use Rattle.trace.specs.Lookups.{fits_here, latest, earliest, reading, of_thread, writes, releases, from_event, previous, last_write, release_of}
+use Rattle.trace.specs.declared.kind.Kind.{Kind}
+use Rattle.trace.specs.declared.kind.Kind.TheVariants.{Read, Write, Acquire, Release}
+use Rattle.trace.specs.Traces.{At, deeper}
+use Rattle.trace.specs.Lookups.{fits_here, latest, reading, of_thread, writes, from_event, previous, last_write, depth_past, freeing, release_of}
 
 module _ (fits : Event → Bool) (t : List Event) where
   -- the latest before the next position is k, if its event fits, and else the latest before k
@@ -24,31 +23,7 @@ module _ (fits : Event → Bool) (t : List Event) where
   pub latest_skip : (k : ℕ) → fits_here fits (slice_get t k) ≡ false → latest fits t (k + 1) ≡ latest fits t k
   latest_skip k h = rw add-one (cond-false (fits_here fits (slice_get t k)) (Some k) (latest fits t k) h)
 
-  -- the earliest from k on is k, if its event fits, and else the earliest from the next position on
-  pub earliest_here : (k n : ℕ) → 0 < n → true ≡ fits_here fits (slice_get t k) → Some k ≡ earliest fits t k n
-  earliest_here k zero b h = absurd (omega arith)
-  earliest_here k (suc n) b h = sym (cond-true (fits_here fits (slice_get t k)) (Some k) (earliest fits t (suc k) n) (sym h))
-
-  pub earliest_skip : (k n m : ℕ) → n ≡ m + 1 → false ≡ fits_here fits (slice_get t k) → earliest fits t (k + 1) m ≡ earliest fits t k n
-  earliest_skip k zero m q h = absurd (omega arith)
-  earliest_skip k (suc n) m q h =
-      ap₂ (earliest fits t) (omega arith) (omega arith) ∙ sym (cond-false (fits_here fits (slice_get t k)) (Some k) (earliest fits t (suc k) n) (sym h))
-
-  -- past the end there is none
-  pub earliest_past : (k n : ℕ) → length t ≤ k → None ≡ earliest fits t k n
-  earliest_past k zero b = refl
-  earliest_past k (suc n) b =
-      earliest_past (suc k) n (omega arith)
-      ∙ sym (cond-false (fits_here fits (slice_get t k)) (Some k) (earliest fits t (suc k) n) (ap (fits_here fits) (slice_get_past t k b)))
-
-  -- and more positions than the trace has tell no more
-  pub earliest_enough : (k n m : ℕ) → length t ≤ k + n → n ≤ m → earliest fits t k n ≡ earliest fits t k m
-  earliest_enough k zero m long more = earliest_past k m (omega arith)
-  earliest_enough k (suc n) zero long more = absurd (omega arith)
-  earliest_enough k (suc n) (suc m) long more =
-      ap (λ o. cond (fits_here fits (slice_get t k)) (Some k) o) (earliest_enough (suc k) n m (omega arith) (omega arith))
-
--- `find` down to the start and up from a position on, where each call tells whether the event at the position fits
+-- `find` down to the start, where each call tells whether the event at the position fits
 module _ {F : Type 0} {g : Mut F (Bor ℕ × Unit {0}) Bool} (f : F) (fits : Event → Bool) (t : List Event)
     (tells : (k : ℕ) (b : Bool) (q : F) → CalledAt g f k b q → (q ≡ f) × (b ≡ fits_here fits (slice_get t k))) where
   again : (k : ℕ) (q : F) (xs : List ℕ) (last : F) → CalledAt g f k false q → FoldsTo (λ p x r. CalledAt g p x false r) q xs last
@@ -72,28 +47,48 @@ module _ {F : Type 0} {g : Mut F (Bor ℕ × Unit {0}) Bool} (f : F) (fits : Eve
       → FindsItem (rev_steps nat_range_steps_back) g s f r u → r ≡ latest fits t n
   finds_latest n s r u from found = downwards s r u (ap (λ (v : Range ℕ). v.start) from) found ∙ ap (λ (v : Range ℕ). latest fits t v.end) from
 
-  pub finds_earliest : (s : Range ℕ) (r : Option ℕ) (u : Range ℕ) → FindsItem nat_range_steps g s f r u → r ≡ earliest fits t s.start (s.end - s.start)
-  finds_earliest s None u ([], last, (mid, same, (end, (gap, start))), calls, hit) =
-      let none : s.end - s.start ≡ 0 = omega (arith, gap, ap (λ (v : Range ℕ). v.start) same, ap (λ (v : Range ℕ). v.end) same) in
-      rw none
-  finds_earliest s (Some k) u ([], last, (mid, same, (end, (gap, is, start))), calls, (q, call)) =
-      let here : s.start ≡ k = omega (arith, is, ap (λ (v : Range ℕ). v.start) same) in
-      rw here (earliest_here fits t k (s.end - k)
-      (omega (arith, gap, is, ap (λ (v : Range ℕ). v.start) same, ap (λ (v : Range ℕ). v.end) same)) (tells k true q (subst (λ (p : F). CalledAt g p k true q) (sym calls) call)).1)
-  finds_earliest s r u (x ∷ xs, last, (mid, (next, (end, (gap, is, start)), rest), ends), (q, call, calls), hit) =
-      let here : next.start ≡ x + 1 = omega (arith, is, start) in
-      finds_earliest next r u (xs, last, (mid, rest, ends), again x q xs last call calls, hit)
-      ∙ rw (here, end, ← is) (earliest_skip fits t x (s.end - x) (s.end - (x + 1)) (omega (arith, gap, is)) (tells x false q call).1)
-
--- where a search starts: from the event at a position, which for a last write is a read and for a release an acquire
+-- where a search starts: from the event at a position, which for a last write is a read
 pub previous_search : (t : List Event) (k : ℕ) (e : Event) → Some e ≡ slice_get t k → latest (of_thread e.thread) t k ≡ previous t k
 previous_search t k e i = ap (from_event (λ f. latest (of_thread f.thread) t k)) i
 
 pub write_search : (t : List Event) (k : ℕ) (e : Event) → At t k e → e.kind ≡ Read → last_write t k ≡ latest (writes e.subject) t k
 write_search t k e i read = rw i (cond-true (reading e.kind) (latest (writes e.subject) t k) None (ap reading read))
 
-pub release_search : (t : List Event) (a k n : ℕ) (e : Event) → Some e ≡ slice_get t a → k ≡ suc a → length t ≤ k + n → n ≤ length t
-    → earliest (releases e.subject e.thread) t k n ≡ release_of t a
-release_search t a k n e i p long short =
-    earliest_enough (releases e.subject e.thread) t k n (length t) long short
-    ∙ rw p (ap (from_event (λ f. earliest (releases f.subject f.thread) t (suc a) (length t))) i)
+-- the search for a release goes on event by event: it starts behind the acquire,
+module _ (t : List Event) where
+  pub release_start : (a : ℕ) (e : Event) → Some e ≡ slice_get t a
+      → release_of t a ≡ freeing e.thread e.subject t 1 (a + 1) (length t - (a + 1))
+  release_start a e i =
+      rw add-one (ap (from_event (λ f. freeing f.thread f.subject t 1 (suc a) (length t - suc a))) (sym i))
+
+  module _ (p l depth k next : ℕ) (is : next ≡ depth_past p l depth (slice_get t k)) where
+    split : (n m : ℕ) → n ≡ suc m → freeing p l t depth k n ≡ cond (eqb next 0) (Some k) (freeing p l t next (suc k) m)
+    split n m q = rw (q, is) refl
+
+    -- ends where the thread is out of the lock,
+    pub release_here : k < length t → next ≡ 0 → freeing p l t depth k (length t - k) ≡ Some k
+    release_here b out = split (length t - k) (length t - suc k) (omega arith) ∙ rw (eq-eqb next 0 out) refl
+
+    -- and else goes on at the next position,
+    pub release_next : k < length t → (next ≡ 0 → ⊥) → freeing p l t depth k (length t - k) ≡ freeing p l t next (k + 1) (length t - (k + 1))
+    release_next b in_lock = rw add-one (split (length t - k) (length t - suc k) (omega arith) ∙ rw (ne_eqb next 0 in_lock) refl)
+
+  -- up to the end of the trace
+  pub release_end : (p l depth k : ℕ) → length t ≤ k → freeing p l t depth k (length t - k) ≡ None
+  release_end p l depth k b = let none : length t - k ≡ 0 = omega arith in rw none refl
+
+-- an event on a lock makes it one deeper at most
+pub deeper_no_more : (k : Kind) (n : ℕ) → deeper k n ≤ n + 1
+deeper_no_more Read n = omega arith
+deeper_no_more Write n = omega arith
+deeper_no_more Acquire n = omega arith
+deeper_no_more Release zero = omega arith
+deeper_no_more Release (suc n) = omega arith
+
+pub past_no_more : (p l n : ℕ) (o : Option Event) → depth_past p l n o ≤ n + 1
+past_no_more p l n None = omega arith
+past_no_more p l n (Some e) = of_test (eqb e.thread p && eqb e.subject l)
+  where
+    of_test : (b : Bool) → cond b (deeper e.kind n) n ≤ n + 1
+    of_test true = deeper_no_more e.kind n
+    of_test false = omega arith

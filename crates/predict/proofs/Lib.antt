@@ -7,6 +7,7 @@ pub mod Finding
 pub mod Inside
 pub mod ReadParts
 pub mod LockParts
+pub mod ClashParts
 pub mod EarlierParts
 pub mod RuleParts
 pub mod Tests

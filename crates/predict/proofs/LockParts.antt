@@ -1,20 +1,26 @@
--- The acquires of a lock in a cut, one after the other: each but the latest has its release in the cut, or that is missing.
-use Rattle.std.proofs.Common.{◌≡◌, ℕ, ◌+◌, ◌<◌, ◌≤◌, Bool, true, false, eqb, ◌⊎◌, List, length, get_or, set, replicate, Some, None, Option, sym, refl, ap, ◌∙◌, inl, inr, ⊎_elim, arith}
+-- The outer acquires of a lock in a cut, one after the other: each but the latest has its release in the cut, or that is missing.
+use Rattle.std.proofs.Common.{◌≡◌, ℕ, zero, suc, pred, ◌+◌, ◌<◌, ◌≤◌, Bool, true, false, cond, eqb, ◌⊎◌, List, [], ◌∷◌, get_or, take, fold, Some, None, Option, sym, refl, ap, ◌∙◌, inl, inr, ⊎_elim, add-one, arith}
 use Rattle.std.specs.List.{slice_get}
-use Rattle.std.proofs.lemmas.Bool.{cases_eq, both_ways, and_parts, and_from, eqb-true, eq-eqb}
-use Rattle.std.proofs.lemmas.List.{length-set, get_or-set_same, get_or-set_other}
+use Rattle.std.proofs.lemmas.Bool.{cases_eq, cases_lt, both_ways, and_parts, and_from, eqb-true, eq-eqb, ne_eqb, lt-ltb, le-ltb}
+use Rattle.std.proofs.lemmas.List.Sums.{fold_push}
 use Rattle.trace.specs.declared.event.Event.{Event}
+use Rattle.trace.specs.declared.hold.Hold.{Hold}
 use Rattle.trace.specs.declared.kind.Kind.{Kind}
 use Rattle.trace.specs.declared.kind.Kind.TheVariants.{Read, Write, Acquire, Release}
 use Rattle.trace.specs.Limits.{locks}
-use Rattle.trace.specs.Traces.{ReleaseOf}
-use Rattle.trace.specs.Lookups.{fits_here, release_of}
+use Rattle.trace.specs.Traces.{At, Standing, at_start, entered, left, turn, after_event, after, standing_after, Admits, Outer, ReleaseOf, deeper}
+use Rattle.trace.specs.Depths.{depth_in}
+use Rattle.trace.specs.Lookups.{release_of}
 use Rattle.trace.specs.Cuts.{In}
-use Rattle.trace.proofs.Events.{at_inside, at_same}
+use Rattle.trace.proofs.Holders.{admits_take}
+use Rattle.trace.proofs.Depths.{Deep, held_as_deep, held_deep}
+use Rattle.trace.proofs.Sections.{take_next, take_past}
 use Rattle.trace.proofs.Lookups.{release_found}
-use Rattle.predict.specs.Held.{below, held, lacks, Misses}
-use Rattle.predict.specs.Parts.{AcquireIn, PastAcquires, LockWants, acquiring, acquires, fits_inside}
-use Rattle.predict.proofs.Inside.{lacks_outside, lacks_inside, inside_event, inside_from, Seen, seen_at, seen_held}
+use Rattle.trace.proofs.Releases.{free_before}
+use Rattle.predict.specs.Held.{held, lacks, Misses}
+use Rattle.predict.specs.Parts.{AcquireIn, Enough, LockWants, SettledBefore, acquiring, acquires, fits_inside, lock_depth_with, lock_depth_past}
+use Rattle.predict.proofs.Finding.{deeper_no_more}
+use Rattle.predict.proofs.Inside.{lacks_outside, lacks_inside, inside_event, inside_from}
 
 is_acquiring : (k : Kind) → acquiring k ≡ true → k ≡ Acquire
 is_acquiring Acquire h = refl
@@ -30,137 +36,204 @@ module _ (e : Event) (l : ℕ) where
   pub as_acquire : e.kind ≡ Acquire → e.subject ≡ l → acquires l e ≡ true
   as_acquire k s = and_from (acquiring e.kind) (eqb e.subject l) (ap acquiring k) (eq-eqb e.subject l s)
 
-module _ (t : List Event) (bs : List ℕ) where
-  -- the test of a position tells whether it is an acquire of the lock in the cut
-  acquire_in : (l k : ℕ) → true ≡ fits_inside (acquires l) t bs k → AcquireIn t (held t bs) l k
-  acquire_in l k h =
-      let (e, i, does, inside) = inside_event t bs (acquires l) k (sym h) in
-      let (kind, lock) = is_acquire e l does in
-      record { event = e; inside = inside; is = i; is_acquire = kind; its_lock = lock }
+-- how deep a lock is held, if it is
+abbrev pub hold_depth : Option Hold → ℕ
+hold_depth None = 0
+hold_depth (Some h) = h.depth
 
-  not_acquire_in : (l k : ℕ) → false ≡ fits_inside (acquires l) t bs k → AcquireIn t (held t bs) l k → ⊥
-  not_acquire_in l k h a =
-      both_ways (fits_inside (acquires l) t bs k) (sym h)
-      (inside_from t bs (acquires l) k a.event a.is (as_acquire a.event l a.is_acquire a.its_lock) a.inside)
+-- how deep a lock is held after some events
+abbrev pub lock_depth : ℕ → List Event → ℕ
+lock_depth l es = fold (lock_depth_with l) 0 es
 
-  -- an acquire in the cut is seen
-  pub acquired : {k : ℕ} {e : Event} {b : Bool} → Seen t bs k e b → e.kind ≡ Acquire → b ≡ true → AcquireIn t (held t bs) e.subject k
-  acquired {e = e} s kind inside = record { event = e; inside = seen_held t bs s ∙ inside; is = seen_at t bs s; is_acquire = kind; its_lock = refl }
+-- that is as deep as the trace check has it held
+module _ (l : ℕ) where
+  held_step : (s : Standing) (e : Event) → hold_depth ((after_event s e).holders l) ≡ lock_depth_with l (hold_depth (s.holders l)) e
+  held_step s e = ⊎_elim here there (cases_eq e.subject l)
+    where
+      there : (e.subject ≡ l → ⊥) → hold_depth ((after_event s e).holders l) ≡ lock_depth_with l (hold_depth (s.holders l)) e
+      there n = rw (ne_eqb e.subject l n) (of_kind e.kind)
+        where
+          of_kind : (k : Kind) → hold_depth (turn k e.thread e.subject s.holders l) ≡ hold_depth (s.holders l)
+          of_kind Read = refl
+          of_kind Write = refl
+          of_kind Acquire = rw (ne_eqb l e.subject (λ q. n (sym q))) refl
+          of_kind Release = rw (ne_eqb l e.subject (λ q. n (sym q))) refl
 
-  -- an event of another kind, or outside the cut, is none
-  pub not_acquired : {k : ℕ} {e : Event} → Some e ≡ slice_get t k → (e.kind ≡ Acquire → below bs k e ≡ true → ⊥) → (l : ℕ)
-      → AcquireIn t (held t bs) l k → ⊥
-  not_acquired {k} {e} is none l a =
-      none (ap (λ (f : Event). f.kind) (at_same t k e a.event (sym is) a.is) ∙ a.is_acquire) (ap (fits_here (below bs k)) is ∙ a.inside)
+      here : e.subject ≡ l → hold_depth ((after_event s e).holders l) ≡ lock_depth_with l (hold_depth (s.holders l)) e
+      here q = rw (← q, eq-eqb e.subject e.subject refl) (of_kind e.kind)
+        where
+          freed : (o : Option Hold) → hold_depth (left o) ≡ pred (hold_depth o)
+          freed None = refl
+          freed (Some h) = ⊎_elim (λ g. rw (lt-ltb 1 h.depth g) refl) (λ g. rw (le-ltb 1 h.depth g) (out h.depth g)) (cases_lt 1 h.depth)
+            where
+              out : (n : ℕ) → n ≤ 1 → 0 ≡ pred n
+              out zero b = refl
+              out (suc n) b = omega arith
 
-  -- the lock of an acquire in the cut is within its limit
-  lock_few : (l a : ℕ) → AcquireIn t (held t bs) l a → l < locks
-  lock_few l a is =
-      let e = is.event in
-      let low : e.subject < locks = rw is.is_acquire at e.known_subject in
-      omega (arith, is.its_lock)
+          entered_once : (o : Option Hold) → hold_depth (entered e.thread o) ≡ suc (hold_depth o)
+          entered_once None = refl
+          entered_once (Some h) = omega arith
 
-  -- an acquire at one position is of one lock
-  one_lock : (l m a : ℕ) → AcquireIn t (held t bs) l a → AcquireIn t (held t bs) m a → l ≡ m
-  one_lock l m a one two =
-      sym one.its_lock ∙ ap (λ (e : Event). e.subject) (at_same t a one.event two.event one.is two.is) ∙ two.its_lock
+          of_kind : (k : Kind) → hold_depth (turn k e.thread e.subject s.holders e.subject) ≡ deeper k (hold_depth (s.holders e.subject))
+          of_kind Read = refl
+          of_kind Write = refl
+          of_kind Acquire = rw (eq-eqb e.subject e.subject refl) (entered_once (s.holders e.subject))
+          of_kind Release = rw (eq-eqb e.subject e.subject refl) (freed (s.holders e.subject))
 
-  -- what the table of ends knows at k: the acquires below k stand before the ends of their locks
-  pub record EndsSoFar (k : ℕ) (ends : List ℕ) : Type 0 where
-    pub whole : length ends ≡ locks
-    pub past : (l a : ℕ) → a < k → AcquireIn t (held t bs) l a → a < get_or ends l 0
+  held_run : (s : Standing) (es : List Event) → hold_depth ((after s es).holders l) ≡ fold (lock_depth_with l) (hold_depth (s.holders l)) es
+  held_run s [] = refl
+  held_run s (e ∷ es) = held_run (after_event s e) es ∙ ap (λ n. fold (lock_depth_with l) n es) (held_step s e)
 
-  pub ends_start : EndsSoFar 0 (replicate locks 0)
-  ends_start = record { whole = refl; past = λ l a b. absurd (omega arith) }
+  pub lock_held : (t : List Event) → hold_depth ((standing_after t).holders l) ≡ lock_depth l t
+  lock_held t = held_run at_start t
 
-  pub ends_stay : (k : ℕ) (ends : List ℕ) → ((l : ℕ) → AcquireIn t (held t bs) l k → ⊥) → EndsSoFar k ends → EndsSoFar (k + 1) ends
-  ends_stay k ends none old = record {
-    whole = old.whole;
-    past = λ l a b is. ⊎_elim (λ q. absurd (none l (rw q at is))) (λ q. old.past l a (omega arith) is) (cases_eq a k);
+  -- with one position more
+  pub lock_depth_next : (t : List Event) (k : ℕ) → lock_depth l (take (suc k) t) ≡ lock_depth_past l (lock_depth l (take k t)) (slice_get t k)
+  lock_depth_next t k = of_event (slice_get t k) refl
+    where
+      of_event : (o : Option Event) → slice_get t k ≡ o → lock_depth l (take (suc k) t) ≡ lock_depth_past l (lock_depth l (take k t)) o
+      of_event None i = ap (lock_depth l) (take_past t k i)
+      of_event (Some e) i = ap (lock_depth l) (take_next t k e i) ∙ fold_push (lock_depth_with l) 0 (take k t) e
+
+  past_no_more : (n : ℕ) (o : Option Event) → lock_depth_past l n o ≤ n + 1
+  past_no_more n None = omega arith
+  past_no_more n (Some e) = of_test (eqb e.subject l)
+    where
+      of_test : (b : Bool) → cond b (deeper e.kind n) n ≤ n + 1
+      of_test true = deeper_no_more e.kind n
+      of_test false = omega arith
+
+  -- the depth before a position, which is no more than the position
+  pub record DepthAt (t : List Event) (k depth : ℕ) : Type 0 where
+    pub is : depth ≡ lock_depth l (take k t)
+    pub few : depth ≤ k
+
+  pub depth_first : (t : List Event) → DepthAt t 0 0
+  depth_first t = record { is = refl; few = omega arith }
+
+  pub depth_next : (t : List Event) (k depth next : ℕ) → DepthAt t k depth → next ≡ lock_depth_past l depth (slice_get t k) → DepthAt t (k + 1) next
+  depth_next t k depth next d is = record {
+    is = rw add-one (is ∙ ap (λ n. lock_depth_past l n (slice_get t k)) d.is ∙ sym (lock_depth_next t k));
+    few = omega (arith, past_no_more depth (slice_get t k), d.few);
   }
 
-  pub ends_more : (k l : ℕ) (ends : List ℕ) → AcquireIn t (held t bs) l k → EndsSoFar k ends → EndsSoFar (k + 1) (set ends l (k + 1))
-  ends_more k l ends here old = record { whole = length-set ends l (k + 1) ∙ old.whole; past = past }
-    where
-      past : (m a : ℕ) → a < k + 1 → AcquireIn t (held t bs) m a → a < get_or (set ends l (k + 1)) m 0
-      past m a b is = ⊎_elim
-          (λ q. let low = lock_few l k here in rw (q, get_or-set_same ends l (k + 1) 0 (omega (arith, old.whole))) b)
-          (λ q. rw (get_or-set_other ends l m (k + 1) 0 q) (old.past m a (⊎_elim (λ z. absurd (q (one_lock m l k (rw z at is) here))) (λ z. omega arith) (cases_eq a k)) is))
-          (cases_eq m l)
-
-  pub ends_all : (k : ℕ) (ends : List ℕ) → length t ≤ k → EndsSoFar k ends → PastAcquires t bs ends
-  ends_all k ends long all = record { whole = all.whole; past = λ l a is. all.past l a (omega (arith, at_inside t a is.event is.is)) is }
-
+module _ (t : List Event) (bs : List ℕ) where
   -- the release of a, if it has one, is in the cut
   abbrev pub ReleaseInside : ℕ → Type 0
   ReleaseInside a = (r : ℕ) → ReleaseOf t a r → In r (held t bs)
 
-  pub no_release : (a : ℕ) → release_of t a ≡ None → ReleaseInside a
-  no_release a q r h = absurd ((release_found t a h.acquire h.acquire_is h.is_acquire).1.0 q r h)
-
-  pub release_inside : (a r : ℕ) → Some r ≡ release_of t a → false ≡ lacks t bs r → ReleaseInside a
-  release_inside a r q h w rel =
-      let p = ((release_found t a rel.acquire rel.acquire_is rel.is_acquire).0 w).1 rel in
-      let one : r ≡ w = cc in
-      lacks_inside t bs w rel.release rel.release_is (sym (rw one at h))
-
-  -- of the acquires of the lock below k, the latest, if there is one; and the others have their releases in the cut
+  -- of the outer acquires of the lock below k, the latest, if there is one; and the others have their releases in the cut
   abbrev pub LatestAcquire : ℕ → ℕ → Option ℕ → Type 0
   LatestAcquire l k None = (m : ℕ) → m < k → AcquireIn t (held t bs) l m → ⊥
   LatestAcquire l k (Some a) = AcquireIn t (held t bs) l a × (a < k)
       × ((m : ℕ) → m < k → AcquireIn t (held t bs) l m → (m ≡ a) ⊎ ((m < a) × ReleaseInside m))
 
-  pub latest_stays : (l k : ℕ) (o : Option ℕ) → false ≡ fits_inside (acquires l) t bs k → LatestAcquire l k o → LatestAcquire l (k + 1) o
-  latest_stays l k None h old = λ m b a. ⊎_elim (λ q. not_acquire_in l k h (rw q at a)) (λ q. old m (omega arith) a) (cases_eq m k)
-  latest_stays l k (Some z) h (is, low, old) =
-      (is, omega arith, λ m b a. ⊎_elim (λ q. absurd (not_acquire_in l k h (rw q at a))) (λ q. old m (omega arith) a) (cases_eq m k))
+  -- a release outside the cut that is wanted
+  pub misses_outside : (r : ℕ) → true ≡ lacks t bs r → (Admits t → LockWants t (held t bs) r) → Misses LockWants t bs (Some r)
+  misses_outside r out wants = record { outside = lacks_outside t bs r (sym out); exact = wants }
 
-  pub latest_first : (l k : ℕ) → true ≡ fits_inside (acquires l) t bs k → LatestAcquire l k None → LatestAcquire l (k + 1) (Some k)
-  latest_first l k h old = (acquire_in l k h, omega arith, λ m b a. ⊎_elim inl (λ q. absurd (old m (omega arith) a)) (cases_eq m k))
-
-  pub latest_next : (l k a : ℕ) → true ≡ fits_inside (acquires l) t bs k → ReleaseInside a → LatestAcquire l k (Some a) → LatestAcquire l (k + 1) (Some k)
-  latest_next l k z h inside (is, low, old) =
-      (acquire_in l k h, omega arith, λ m b a. ⊎_elim inl (λ q. inr (omega arith, settled m (old m (omega arith) a))) (cases_eq m k))
+module _ (t : List Event) (ok : Admits t) where
+  -- an acquire is outer just where its lock is free before it
+  outer_from : (k : ℕ) (e : Event) → At t k e → e.kind ≡ Acquire → lock_depth e.subject (take k t) ≡ 0 → Outer t k e
+  outer_from k e i kind free = record { is = i; is_acquire = kind; outside = sym (held_as_deep (take k t) (admits_take t k ok) e.thread e.subject) ∙ none }
     where
-      settled : (m : ℕ) → (m ≡ z) ⊎ ((m < z) × ReleaseInside m) → ReleaseInside m
-      settled m (inl q) = rw q inside
-      settled m (inr p) = p.1
+      no_hold : (o : Option Hold) → hold_depth o ≡ 0 → Deep o → o ≡ None
+      no_hold None q d = refl
+      no_hold (Some h) q d = absurd (omega arith)
 
-  -- the lock wants nothing more
-  abbrev pub LockSettled : ℕ → Type 0
-  LockSettled l = (a b w : ℕ) → AcquireIn t (held t bs) l a → AcquireIn t (held t bs) l b → a < b → ReleaseOf t a w → In w (held t bs)
+      none : depth_in ((standing_after (take k t)).holders e.subject) e.thread ≡ 0
+      none = rw (no_hold ((standing_after (take k t)).holders e.subject) (lock_held e.subject (take k t) ∙ free) (held_deep (take k t) (admits_take t k ok) e.subject)) refl
 
-  pub lock_settled : (l k : ℕ) (o : Option ℕ) → ((a : ℕ) → AcquireIn t (held t bs) l a → a < k) → LatestAcquire l k o → LockSettled l
-  lock_settled l k None past old a b w one two order rel = absurd (old a (past a one) one)
-  lock_settled l k (Some z) past (is, low, old) a b w one two order rel = from (old a (past a one) one) (old b (past b two) two)
-    where
-      from : (a ≡ z) ⊎ ((a < z) × ReleaseInside a) → (b ≡ z) ⊎ ((b < z) × ReleaseInside b) → In w (held t bs)
-      from (inr p) q = p.1 w rel
-      from (inl p) (inl q) = absurd (omega arith)
-      from (inl p) (inr q) = absurd (omega (arith, q.0))
+  outer_free : (k : ℕ) (e : Event) → Outer t k e → lock_depth e.subject (take k t) ≡ 0
+  outer_free k e o = sym (lock_held e.subject (take k t)) ∙ ap hold_depth (free_before t k e ok o)
 
-  -- one lock more, and all
-  pub locks_more : (l : ℕ) → ((m : ℕ) → m < l → LockSettled m) → LockSettled l → (m : ℕ) → m < l + 1 → LockSettled m
-  locks_more l old new m b = ⊎_elim (λ q. rw q new) (λ q. old m (omega arith)) (cases_eq m l)
+  module _ (bs : List ℕ) where
+    -- the tests of a position tell whether it is an outer acquire of the lock in the cut
+    acquire_in : (l k : ℕ) → lock_depth l (take k t) ≡ 0 → true ≡ fits_inside (acquires l) t bs k → AcquireIn t (held t bs) l k
+    acquire_in l k free h =
+        let (e, i, does, inside) = inside_event t bs (acquires l) k (sym h) in
+        let (kind, lock) = is_acquire e l does in
+        record { event = e; inside = inside; outer = outer_from k e i kind (rw lock free); its_lock = lock }
 
-  pub locks_all : (n : ℕ) → locks ≤ n → ((m : ℕ) → m < n → LockSettled m) → Misses LockWants t bs None
-  locks_all n b settled = record { outside = tt; exact = λ w h. settled h.lock (few h) h.first h.second w h.first_in h.second_in h.order h.release }
-    where
-      few : {w : ℕ} (h : LockWants t (held t bs) w) → h.lock < n
-      few h = omega (arith, lock_few h.lock h.first h.first_in)
+    not_acquire_in : (l k : ℕ) → false ≡ fits_inside (acquires l) t bs k → AcquireIn t (held t bs) l k → ⊥
+    not_acquire_in l k h a =
+        both_ways (fits_inside (acquires l) t bs k) (sym h)
+        (inside_from t bs (acquires l) k a.event a.outer.is (as_acquire a.event l a.outer.is_acquire a.its_lock) a.inside)
 
-  -- a latest acquire, before another, with its release outside
-  pub lock_misses : (l k a r : ℕ) → true ≡ fits_inside (acquires l) t bs k → LatestAcquire l k (Some a) → Some r ≡ release_of t a → true ≡ lacks t bs r
-      → Misses LockWants t bs (Some r)
-  lock_misses l k a r h (is, low, old) q out = record {
-    outside = lacks_outside t bs r (sym out);
-    exact = record {
+    not_held_in : (l k : ℕ) → (lock_depth l (take k t) ≡ 0 → ⊥) → AcquireIn t (held t bs) l k → ⊥
+    not_held_in l k held a = held (rw a.its_lock at (outer_free k a.event a.outer))
+
+    pub no_release : {l k : ℕ} (a : ℕ) → LatestAcquire t bs l k (Some a) → release_of t a ≡ None → ReleaseInside t bs a
+    no_release a (is, low, old) q r h = absurd ((release_found t a is.event is.outer).1.0 q r h)
+
+    pub release_inside : {l k : ℕ} (a r : ℕ) → LatestAcquire t bs l k (Some a) → Some r ≡ release_of t a → false ≡ lacks t bs r → ReleaseInside t bs a
+    release_inside a r (is, low, old) q h w rel =
+        let p = ((release_found t a is.event is.outer).0 w).1 rel in
+        let one : r ≡ w = cc in
+        lacks_inside t bs w rel.release rel.frees.is (sym (rw one at h))
+
+    -- a position that is none
+    latest_passes : (l k : ℕ) (o : Option ℕ) → (AcquireIn t (held t bs) l k → ⊥) → LatestAcquire t bs l k o → LatestAcquire t bs l (k + 1) o
+    latest_passes l k None h old = λ m b a. ⊎_elim (λ q. h (rw q at a)) (λ q. old m (omega arith) a) (cases_eq m k)
+    latest_passes l k (Some z) h (is, low, old) =
+        (is, omega arith, λ m b a. ⊎_elim (λ q. absurd (h (rw q at a))) (λ q. old m (omega arith) a) (cases_eq m k))
+
+    pub latest_stays : (l k : ℕ) (o : Option ℕ) → false ≡ fits_inside (acquires l) t bs k → LatestAcquire t bs l k o → LatestAcquire t bs l (k + 1) o
+    latest_stays l k o h = latest_passes l k o (not_acquire_in l k h)
+
+    pub latest_held : (l k : ℕ) (o : Option ℕ) → (lock_depth l (take k t) ≡ 0 → ⊥) → LatestAcquire t bs l k o → LatestAcquire t bs l (k + 1) o
+    latest_held l k o h = latest_passes l k o (not_held_in l k h)
+
+    pub latest_first : (l k : ℕ) → lock_depth l (take k t) ≡ 0 → true ≡ fits_inside (acquires l) t bs k → LatestAcquire t bs l k None
+        → LatestAcquire t bs l (k + 1) (Some k)
+    latest_first l k free h old = (acquire_in l k free h, omega arith, λ m b a. ⊎_elim inl (λ q. absurd (old m (omega arith) a)) (cases_eq m k))
+
+    pub latest_next : (l k a : ℕ) → lock_depth l (take k t) ≡ 0 → true ≡ fits_inside (acquires l) t bs k → ReleaseInside t bs a → LatestAcquire t bs l k (Some a)
+        → LatestAcquire t bs l (k + 1) (Some k)
+    latest_next l k z free h inside (is, low, old) =
+        (acquire_in l k free h, omega arith, λ m b a. ⊎_elim inl (λ q. inr (omega arith, settled m (old m (omega arith) a))) (cases_eq m k))
+      where
+        settled : (m : ℕ) → (m ≡ z) ⊎ ((m < z) × ReleaseInside t bs m) → ReleaseInside t bs m
+        settled m (inl q) = rw q inside
+        settled m (inr p) = p.1
+
+    -- the lock wants nothing more before the position
+    pub lock_settled : (l k : ℕ) (o : Option ℕ) → LatestAcquire t bs l k o → SettledBefore t (held t bs) l k
+    lock_settled l k None old a b w one two order low rel = absurd (old a (omega arith) one)
+    lock_settled l k (Some z) (is, late, old) a b w one two order low rel = from (old a (omega arith) one) (old b low two)
+      where
+        from : (a ≡ z) ⊎ ((a < z) × ReleaseInside t bs a) → (b ≡ z) ⊎ ((b < z) × ReleaseInside t bs b) → In w (held t bs)
+        from (inr p) q = p.1 w rel
+        from (inl p) (inl q) = absurd (omega arith)
+        from (inl p) (inr q) = absurd (omega (arith, q.0))
+
+    -- a latest acquire, before another, with its release outside
+    pub lock_misses : (l k a r : ℕ) → lock_depth l (take k t) ≡ 0 → true ≡ fits_inside (acquires l) t bs k → LatestAcquire t bs l k (Some a)
+        → Some r ≡ release_of t a → LockWants t (held t bs) r
+    lock_misses l k a r free h (is, low, old) q = record {
       lock = l;
       first = a;
       second = k;
       first_in = is;
-      second_in = acquire_in l k h;
+      second_in = acquire_in l k free h;
       order = low;
-      release = ((release_found t a is.event is.is is.is_acquire).0 r).0 (sym q);
-    };
-  }
+      release = ((release_found t a is.event is.outer).0 r).0 (sym q);
+    }
+
+module _ (t : List Event) (bs ends : List ℕ) where
+  -- the locks below l are settled before their ends
+  abbrev pub LocksSettled : ℕ → Type 0
+  LocksSettled l = Admits t → (m : ℕ) → m < l → SettledBefore t (held t bs) m (get_or ends m 0)
+
+  pub locks_more : (l : ℕ) → LocksSettled l → (Admits t → SettledBefore t (held t bs) l (get_or ends l 0)) → LocksSettled (l + 1)
+  locks_more l old new ok m b = ⊎_elim (λ q. rw q (new ok)) (λ q. old ok m (omega arith)) (cases_eq m l)
+
+  -- and all of them, so nothing is missing
+  pub locks_all : (n : ℕ) → locks ≤ n → Enough t bs ends → LocksSettled n → Misses LockWants t bs None
+  locks_all n all e settled = record { outside = tt; exact = λ ok. e.enough ok (λ l. ⊎_elim (λ low. settled ok l low) (λ high. none l high) (cases_lt l n)) }
+    where
+      none : (l : ℕ) → n ≤ l → SettledBefore t (held t bs) l (get_or ends l 0)
+      none l high a b w one two order low rel =
+          let f = one.event in
+          let few : f.subject < locks = rw one.outer.is_acquire at f.known_subject in
+          absurd (omega (arith, few, one.its_lock, high, all))

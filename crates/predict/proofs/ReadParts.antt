@@ -123,7 +123,7 @@ module _ (t : List Event) (bs : List ℕ) where
             let l = ((last_write_found t k).0 w).0 (write_search t k e at is ∙ q) in
             record {
               outside = record { in_trace = at_inside t w l.write l.write_is; not_held = out };
-              exact = record { read = k; inside = seen_held t bs seen ∙ i; last_write = l };
+              exact = λ ok. record { read = k; inside = seen_held t bs seen ∙ i; last_write = l };
             }
 
         out_of : (r w : ℕ) (c : Bool) → Some r ≡ then_some (not c) w → (c ≡ false) × (r ≡ w)
@@ -139,7 +139,7 @@ module _ (t : List Event) (bs : List ℕ) where
   pub pass_all : (k : ℕ) (table : List (Option ℕ)) → length t ≤ k → Pass k table → Misses ReadWants t bs None
   pass_all k table b p = record {
     outside = tt;
-    exact = λ w h.
+    exact = λ ok w h.
         let l = h.last_write in
         p.settled h.read (omega (arith, at_inside t h.read l.read l.read_is)) w h.inside l;
   }

@@ -12,9 +12,9 @@ module _ (t : List Event) (bs : List ℕ) where
   misses_either : (one two all : Wants) → ((w : ℕ) → one t (held t bs) w → all t (held t bs) w) → ((w : ℕ) → two t (held t bs) w → all t (held t bs) w)
       → (Closed one t (held t bs) → Closed two t (held t bs) → Closed all t (held t bs))
       → (first r : Option ℕ) → Misses one t bs first → MatchOption first (Misses two t bs r) (λ w. r ≡ Some w) → Misses all t bs r
-  misses_either one two all here there both (Some w) r h is = rw is (record { outside = h.outside; exact = here w h.exact })
-  misses_either one two all here there both None None h rest = record { outside = tt; exact = both h.exact rest.exact }
-  misses_either one two all here there both None (Some w) h rest = record { outside = rest.outside; exact = there w rest.exact }
+  misses_either one two all here there both (Some w) r h is = rw is (record { outside = h.outside; exact = λ ok. here w (h.exact ok) })
+  misses_either one two all here there both None None h rest = record { outside = tt; exact = λ ok. both (h.exact ok) (rest.exact ok) }
+  misses_either one two all here there both None (Some w) h rest = record { outside = rest.outside; exact = λ ok. there w (rest.exact ok) }
 
   -- the sync rule: reads, then locks
   read_sync : (w : ℕ) → ReadWants t (held t bs) w → SyncWants t (held t bs) w
@@ -24,16 +24,16 @@ module _ (t : List Event) (bs : List ℕ) where
   lock_sync w h =
       let a = h.first_in in
       let b = h.second_in in
-      earlier_release a.inside b.inside h.order a.is b.is a.is_acquire b.is_acquire (a.its_lock ∙ sym b.its_lock) h.release
+      earlier_release a.inside b.inside h.order a.outer b.outer (a.its_lock ∙ sym b.its_lock) h.release
 
   sync_closed : Closed ReadWants t (held t bs) → Closed LockWants t (held t bs) → Closed SyncWants t (held t bs)
   sync_closed reads locks w (last_write {k} i l) = reads w (record { read = k; inside = i; last_write = l })
-  sync_closed reads locks w (earlier_release {a} {b} {e} {f} i j lt p q ie if same rel) = locks w (record {
+  sync_closed reads locks w (earlier_release {a} {b} {e} {f} i j lt p q same rel) = locks w (record {
     lock = f.subject;
     first = a;
     second = b;
-    first_in = record { event = e; inside = i; is = p; is_acquire = ie; its_lock = same };
-    second_in = record { event = f; inside = j; is = q; is_acquire = if; its_lock = refl };
+    first_in = record { event = e; inside = i; outer = p; its_lock = same };
+    second_in = record { event = f; inside = j; outer = q; its_lock = refl };
     order = lt;
     release = rel;
   })

@@ -1,17 +1,18 @@
 -- The three rules as tests that compute.
-use Rattle.std.proofs.Common.{◌≡◌, ℕ, ◌<◌, Bool, true, ◌&&◌, ◌||◌, ltb, List, length, sym, refl, ⊎_elim}
+use Rattle.std.proofs.Common.{◌≡◌, ℕ, ◌<◌, Bool, true, false, ◌&&◌, ◌||◌, eqb, ltb, List, length, sym, refl, ap, ⊎_elim, arith}
 use Rattle.std.specs.List.{slice_get}
-use Rattle.std.proofs.lemmas.Bool.{and_parts, and_from, or_cases, or_left, or_right, ltb-true, lt-ltb}
+use Rattle.std.proofs.lemmas.Bool.{and_parts, and_from, or_cases, or_left, or_right, ltb-true, lt-ltb, eqb-true, eq-eqb}
 use Rattle.trace.specs.declared.event.Event.{Event}
-use Rattle.trace.specs.declared.kind.Kind.TheVariants.{Acquire}
-use Rattle.trace.specs.Traces.{At}
-use Rattle.trace.specs.Lookups.{fits_here, releases, last_write, release_of}
+use Rattle.trace.specs.declared.kind.Kind.{Kind}
+use Rattle.trace.specs.declared.kind.Kind.TheVariants.{Read, Write, Acquire, Release}
+use Rattle.trace.specs.Traces.{At, depth_at, Outer, Frees}
+use Rattle.trace.specs.Lookups.{fits_here, last_write, release_of}
 use Rattle.trace.specs.Cuts.{Positions, In, Wants, SyncWants, HappensBeforeWants, SchedulableWants}
 use Rattle.trace.specs.Cuts.SyncWants.{last_write as of_read, earlier_release}
 use Rattle.trace.specs.Cuts.HappensBeforeWants.{release_before}
 use Rattle.trace.specs.Cuts.SchedulableWants.{as_before, last_write as read_by_lem}
 use Rattle.trace.proofs.Events.{at_inside}
-use Rattle.trace.proofs.Lookups.{is_release, as_release, last_write_found, release_found}
+use Rattle.trace.proofs.Lookups.{last_write_found, release_found}
 use Rattle.predict.specs.Parts.{acquires, ReadWants}
 use Rattle.predict.proofs.Inside.{tested}
 use Rattle.predict.proofs.LockParts.{is_acquire, as_acquire}
@@ -59,87 +60,123 @@ reads_decided = record {
       some_in_from read_test t c w h.read l.read l.read_is h.inside (found_from (last_write t h.read) w (((last_write_found t h.read).0 w).1 l));
 }
 
--- w is an event that fits, before the acquire k of a lock
-abbrev pub before_acquire : (ℕ → Event → Bool) → List Event → ℕ → ℕ → Bool
-before_acquire fits t k w = ltb w k && fits_here (λ e. acquires e.subject e && fits_here (fits e.subject) (slice_get t w)) (slice_get t k)
+-- an outer acquire of the lock l, and a release that frees it
+abbrev pub outer_here : List Event → ℕ → ℕ → Event → Bool
+outer_here t l k e = acquires l e && eqb (depth_at t k e) 0
+
+abbrev pub releasing : Kind → Bool
+releasing Read = false
+releasing Write = false
+releasing Acquire = false
+releasing Release = true
+
+is_releasing : (k : Kind) → releasing k ≡ true → k ≡ Release
+is_releasing Release h = refl
+is_releasing Read h = absurd (grind arith)
+is_releasing Write h = absurd (grind arith)
+is_releasing Acquire h = absurd (grind arith)
+
+abbrev pub frees_here : List Event → ℕ → ℕ → Event → Bool
+frees_here t l k e = (releasing e.kind && eqb e.subject l) && eqb (depth_at t k e) 1
+
+module _ (t : List Event) (l k : ℕ) (e : Event) (i : At t k e) where
+  is_outer : outer_here t l k e ≡ true → Outer t k e × (e.subject ≡ l)
+  is_outer h =
+      let (a, d) = and_parts (acquires l e) (eqb (depth_at t k e) 0) h in
+      let (kind, lock) = is_acquire e l a in
+      (record { is = i; is_acquire = kind; outside = eqb-true (depth_at t k e) 0 d }, lock)
+
+  as_outer : Outer t k e → e.subject ≡ l → outer_here t l k e ≡ true
+  as_outer o lock = and_from (acquires l e) (eqb (depth_at t k e) 0) (as_acquire e l o.is_acquire lock) (eq-eqb (depth_at t k e) 0 o.outside)
+
+  is_freeing : frees_here t l k e ≡ true → Frees t k e × (e.subject ≡ l)
+  is_freeing h =
+      let (a, d) = and_parts (releasing e.kind && eqb e.subject l) (eqb (depth_at t k e) 1) h in
+      let (kind, lock) = and_parts (releasing e.kind) (eqb e.subject l) a in
+      (record { is = i; is_release = is_releasing e.kind kind; last = eqb-true (depth_at t k e) 1 d }, eqb-true e.subject l lock)
+
+  as_freeing : Frees t k e → e.subject ≡ l → frees_here t l k e ≡ true
+  as_freeing f lock =
+      and_from (releasing e.kind && eqb e.subject l) (eqb (depth_at t k e) 1)
+      (and_from (releasing e.kind) (eqb e.subject l) (ap releasing f.is_release) (eq-eqb e.subject l lock)) (eq-eqb (depth_at t k e) 1 f.last)
+
+-- w is an event that fits the lock of the outer acquire k, and stands before it
+abbrev pub Fitting : Type 0
+Fitting = List Event → ℕ → ℕ → Event → Bool
+
+abbrev pub before_acquire : Fitting → List Event → ℕ → ℕ → Bool
+before_acquire fits t k w = ltb w k && fits_here (λ e. outer_here t e.subject k e && fits_here (fits t e.subject w) (slice_get t w)) (slice_get t k)
 
 -- the same as a relation, which the test decides
-pub record BeforeAcquire (fits : ℕ → Event → Bool) (t : List Event) (k w : ℕ) : Type 0 where
+pub record BeforeAcquire (fits : Fitting) (t : List Event) (k w : ℕ) : Type 0 where
   pub before : w < k
   pub acquire : Event
   pub event : Event
-  pub acquire_is : At t k acquire
+  pub outer : Outer t k acquire
   pub event_is : At t w event
-  pub is_acquire : acquire.kind ≡ Acquire
-  pub does : fits acquire.subject event ≡ true
+  pub does : fits t acquire.subject w event ≡ true
 
-module _ (fits : ℕ → Event → Bool) (t : List Event) (k w : ℕ) where
+module _ (fits : Fitting) (t : List Event) (k w : ℕ) where
   pub is_before_acquire : before_acquire fits t k w ≡ true → BeforeAcquire fits t k w
   is_before_acquire h =
-      let (b, r) = and_parts (ltb w k) (fits_here (λ e. acquires e.subject e && fits_here (fits e.subject) (slice_get t w)) (slice_get t k)) h in
-      let (e, at-k, q) = tested (λ e. acquires e.subject e && fits_here (fits e.subject) (slice_get t w)) (slice_get t k) r in
-      let (a, s) = and_parts (acquires e.subject e) (fits_here (fits e.subject) (slice_get t w)) q in
-      let (f, at-w, does) = tested (fits e.subject) (slice_get t w) s in
+      let (b, r) = and_parts (ltb w k) (fits_here (λ e. outer_here t e.subject k e && fits_here (fits t e.subject w) (slice_get t w)) (slice_get t k)) h in
+      let (e, at-k, q) = tested (λ e. outer_here t e.subject k e && fits_here (fits t e.subject w) (slice_get t w)) (slice_get t k) r in
+      let (a, s) = and_parts (outer_here t e.subject k e) (fits_here (fits t e.subject w) (slice_get t w)) q in
+      let (f, at-w, does) = tested (fits t e.subject w) (slice_get t w) s in
       record {
         before = ltb-true w k b;
         acquire = e;
         event = f;
-        acquire_is = at-k;
+        outer = (is_outer t e.subject k e at-k a).0;
         event_is = at-w;
-        is_acquire = (is_acquire e e.subject a).0;
         does = does;
       }
 
   pub as_before_acquire : BeforeAcquire fits t k w → before_acquire fits t k w ≡ true
   as_before_acquire h =
-      and_from (ltb w k) (fits_here (λ e. acquires e.subject e && fits_here (fits e.subject) (slice_get t w)) (slice_get t k)) (lt-ltb w k h.before)
-      (rw (h.acquire_is, h.event_is)
-      (and_from (acquires h.acquire.subject h.acquire) (fits h.acquire.subject h.event)
-      (as_acquire h.acquire h.acquire.subject h.is_acquire refl) h.does))
+      and_from (ltb w k) (fits_here (λ e. outer_here t e.subject k e && fits_here (fits t e.subject w) (slice_get t w)) (slice_get t k)) (lt-ltb w k h.before)
+      (rw (h.outer.is, h.event_is)
+      (and_from (outer_here t h.acquire.subject k h.acquire) (fits t h.acquire.subject w h.event)
+      (as_outer t h.acquire.subject k h.acquire h.outer.is h.outer refl) h.does))
 
--- a release of the lock l
-abbrev pub unlocks : ℕ → Event → Bool
-unlocks l e = releases l e.thread e
-
--- an acquire wants each earlier release of its lock
-pub happens_before_decided : Decides HappensBeforeWants (some_in (before_acquire unlocks))
+-- an outer acquire wants each earlier release that freed its lock
+pub happens_before_decided : Decides HappensBeforeWants (some_in (before_acquire frees_here))
 happens_before_decided = record { wanted = wanted; passes = passes }
   where
-    wanted : (t : List Event) (c : Positions) (w : ℕ) → some_in (before_acquire unlocks) t c w ≡ true → HappensBeforeWants t c w
+    wanted : (t : List Event) (c : Positions) (w : ℕ) → some_in (before_acquire frees_here) t c w ≡ true → HappensBeforeWants t c w
     wanted t c w h =
-        let (k, i, q) = some_inside (before_acquire unlocks) t c w h in
-        let b = is_before_acquire unlocks t k w q in
-        let r = is_release b.event b.acquire.subject b.event.thread b.does in
-        release_before i b.before b.acquire_is b.event_is b.is_acquire r.0 (sym r.1)
+        let (k, i, q) = some_inside (before_acquire frees_here) t c w h in
+        let b = is_before_acquire frees_here t k w q in
+        let (f, lock) = is_freeing t b.acquire.subject w b.event b.event_is b.does in
+        release_before i b.before b.outer f (sym lock)
 
-    passes : (t : List Event) (c : Positions) (w : ℕ) → HappensBeforeWants t c w → some_in (before_acquire unlocks) t c w ≡ true
-    passes t c w (release_before {a} {e} {f} i lt p q ie if same) = some_in_from (before_acquire unlocks) t c w a e p i (as_before_acquire unlocks t a w (record {
+    passes : (t : List Event) (c : Positions) (w : ℕ) → HappensBeforeWants t c w → some_in (before_acquire frees_here) t c w ≡ true
+    passes t c w (release_before {a} {e} {f} i lt p q same) = some_in_from (before_acquire frees_here) t c w a e p.is i (as_before_acquire frees_here t a w (record {
       before = lt;
       acquire = e;
       event = f;
-      acquire_is = p;
-      event_is = q;
-      is_acquire = ie;
-      does = as_release f e.subject f.thread if (sym same) refl;
+      outer = p;
+      event_is = q.is;
+      does = as_freeing t e.subject w f q.is q (sym same);
     }))
 
 -- in schedulable happens-before a read wants its last write too
-pub schedulable_decided : Decides SchedulableWants (either (some_in (before_acquire unlocks)) (some_in read_test))
+pub schedulable_decided : Decides SchedulableWants (either (some_in (before_acquire frees_here)) (some_in read_test))
 schedulable_decided = record { wanted = wanted; passes = passes }
   where
-    wanted : (t : List Event) (c : Positions) (w : ℕ) → either (some_in (before_acquire unlocks)) (some_in read_test) t c w ≡ true → SchedulableWants t c w
+    wanted : (t : List Event) (c : Positions) (w : ℕ) → either (some_in (before_acquire frees_here)) (some_in read_test) t c w ≡ true → SchedulableWants t c w
     wanted t c w h =
         ⊎_elim (λ b. as_before (happens_before_decided.wanted t c w b)) (λ b. let r = reads_decided.wanted t c w b in read_by_lem r.inside r.last_write)
-        (or_cases (some_in (before_acquire unlocks) t c w) (some_in read_test t c w) h)
+        (or_cases (some_in (before_acquire frees_here) t c w) (some_in read_test t c w) h)
 
-    passes : (t : List Event) (c : Positions) (w : ℕ) → SchedulableWants t c w → either (some_in (before_acquire unlocks)) (some_in read_test) t c w ≡ true
-    passes t c w (as_before h) = or_left (some_in (before_acquire unlocks) t c w) (some_in read_test t c w) (happens_before_decided.passes t c w h)
-    passes t c w (read_by_lem {k} i l) = or_right (some_in (before_acquire unlocks) t c w) (some_in read_test t c w)
+    passes : (t : List Event) (c : Positions) (w : ℕ) → SchedulableWants t c w → either (some_in (before_acquire frees_here)) (some_in read_test) t c w ≡ true
+    passes t c w (as_before h) = or_left (some_in (before_acquire frees_here) t c w) (some_in read_test t c w) (happens_before_decided.passes t c w h)
+    passes t c w (read_by_lem {k} i l) = or_right (some_in (before_acquire frees_here) t c w) (some_in read_test t c w)
         (reads_decided.passes t c w (record { read = k; inside = i; last_write = l }))
 
--- of two acquires of one lock the first, at a, wants its release
+-- of two outer acquires of one lock the first, at a, wants its release
 abbrev pub lock_test : Test
-lock_test t c w = some_below (λ a. (c a && finds (release_of t a) w) && some_in (before_acquire acquires) t c a) (length t)
+lock_test t c w = some_below (λ a. (c a && finds (release_of t a) w) && some_in (before_acquire outer_here) t c a) (length t)
 
 -- the sync rule has the reads and the locks
 pub sync_decided : Decides SyncWants (either (some_in read_test) lock_test)
@@ -147,14 +184,13 @@ sync_decided = record { wanted = wanted; passes = passes }
   where
     locks : (t : List Event) (c : Positions) (w : ℕ) → lock_test t c w ≡ true → SyncWants t c w
     locks t c w h =
-        let (a, q) = some_found (λ a. (c a && finds (release_of t a) w) && some_in (before_acquire acquires) t c a) (length t) h in
-        let (here, later) = and_parts (c a && finds (release_of t a) w) (some_in (before_acquire acquires) t c a) q in
+        let (a, q) = some_found (λ a. (c a && finds (release_of t a) w) && some_in (before_acquire outer_here) t c a) (length t) h in
+        let (here, later) = and_parts (c a && finds (release_of t a) w) (some_in (before_acquire outer_here) t c a) q in
         let (i, is) = and_parts (c a) (finds (release_of t a) w) here in
-        let (b, j, s) = some_inside (before_acquire acquires) t c a later in
-        let r = is_before_acquire acquires t b a s in
-        let (kind, lock) = is_acquire r.event r.acquire.subject r.does in
-        earlier_release i j r.before r.event_is r.acquire_is kind r.is_acquire lock
-        (((release_found t a r.event r.event_is kind).0 w).0 (found (release_of t a) w is))
+        let (b, j, s) = some_inside (before_acquire outer_here) t c a later in
+        let r = is_before_acquire outer_here t b a s in
+        let (first, lock) = is_outer t r.acquire.subject a r.event r.event_is r.does in
+        earlier_release i j r.before first r.outer lock (((release_found t a r.event first).0 w).0 (found (release_of t a) w is))
 
     wanted : (t : List Event) (c : Positions) (w : ℕ) → either (some_in read_test) lock_test t c w ≡ true → SyncWants t c w
     wanted t c w h =
@@ -164,17 +200,16 @@ sync_decided = record { wanted = wanted; passes = passes }
     passes : (t : List Event) (c : Positions) (w : ℕ) → SyncWants t c w → either (some_in read_test) lock_test t c w ≡ true
     passes t c w (of_read {k} i l) = or_left (some_in read_test t c w) (lock_test t c w)
         (reads_decided.passes t c w (record { read = k; inside = i; last_write = l }))
-    passes t c w (earlier_release {a} {b} {e} {f} i j lt p q ie if same rel) =
+    passes t c w (earlier_release {a} {b} {e} {f} i j lt p q same rel) =
         or_right (some_in read_test t c w) (lock_test t c w)
-        (some_from (λ a. (c a && finds (release_of t a) w) && some_in (before_acquire acquires) t c a) (length t) a (at_inside t a e p)
-        (and_from (c a && finds (release_of t a) w) (some_in (before_acquire acquires) t c a)
-        (and_from (c a) (finds (release_of t a) w) i (found_from (release_of t a) w (((release_found t a e p ie).0 w).1 rel)))
-        (some_in_from (before_acquire acquires) t c a b f q j (as_before_acquire acquires t b a (record {
+        (some_from (λ a. (c a && finds (release_of t a) w) && some_in (before_acquire outer_here) t c a) (length t) a (at_inside t a e p.is)
+        (and_from (c a && finds (release_of t a) w) (some_in (before_acquire outer_here) t c a)
+        (and_from (c a) (finds (release_of t a) w) i (found_from (release_of t a) w (((release_found t a e p).0 w).1 rel)))
+        (some_in_from (before_acquire outer_here) t c a b f q.is j (as_before_acquire outer_here t b a (record {
           before = lt;
           acquire = f;
           event = e;
-          acquire_is = q;
-          event_is = p;
-          is_acquire = if;
-          does = as_acquire e f.subject ie same;
+          outer = q;
+          event_is = p.is;
+          does = as_outer t f.subject a e p.is p same;
         })))))

@@ -1,13 +1,13 @@
 -- The parts of the rules.
-use Rattle.std.specs.Prelude.{◌≡◌, ℕ, ◌<◌, Bool, true, false, ◌&&◌, List, length, ◌==◌, slice_index}
+use Rattle.std.specs.Prelude.{◌≡◌, ℕ, ◌<◌, ◌≤◌, Bool, true, false, ◌&&◌, cond, List, length, Some, None, Option, ◌==◌, slice_index}
 use Rattle.std.specs.List.{slice_get}
 use Rattle.trace.specs.declared.event.Event.{Event}
 use Rattle.trace.specs.declared.kind.Kind.{Kind}
 use Rattle.trace.specs.declared.kind.Kind.TheVariants.{Read, Write, Acquire, Release}
 use Rattle.trace.specs.Limits.{locks}
 use Rattle.trace.specs.Lookups.{fits_here}
-use Rattle.trace.specs.Traces.{At, LastWrite, ReleaseOf}
-use Rattle.trace.specs.Cuts.{Positions, In}
+use Rattle.trace.specs.Traces.{Admits, deeper, Outer, LastWrite, ReleaseOf}
+use Rattle.trace.specs.Cuts.{Positions, In, Closed}
 use Rattle.predict.specs.Held.{below, held}
 
 -- whether a kind is Acquire
@@ -31,20 +31,14 @@ pub record ReadWants (t : List Event) (c : Positions) (w : ℕ) : Type 0 where
   pub inside : In read c
   pub last_write : LastWrite t read w
 
--- a is an acquire of the lock l in the cut
+-- a is an outer acquire of the lock l in the cut
 pub record AcquireIn (t : List Event) (c : Positions) (l a : ℕ) : Type 0 where
   pub event : Event
   pub inside : In a c
-  pub is : At t a event
-  pub is_acquire : event.kind ≡ Acquire
+  pub outer : Outer t a event
   pub its_lock : event.subject ≡ l
 
--- for each lock, its acquires in the cut below the bounds stand before the position that the table has for it
-pub record PastAcquires (t : List Event) (bounds ends : List ℕ) : Type 0 where
-  pub whole : length ends ≡ locks
-  pub past : (l a : ℕ) → AcquireIn t (held t bounds) l a → a < slice_index ends l
-
--- of two acquires of a lock in the cut the first wants its release
+-- of two outer acquires of a lock in the cut the first wants its release
 pub record LockWants (t : List Event) (c : Positions) (w : ℕ) : Type 0 where
   pub lock : ℕ
   pub first : ℕ
@@ -53,3 +47,22 @@ pub record LockWants (t : List Event) (c : Positions) (w : ℕ) : Type 0 where
   pub second_in : AcquireIn t c lock second
   pub order : first < second
   pub release : ReleaseOf t first w
+
+-- of two outer acquires of the lock l in the cut, both before position n, the first has its release in the cut, if it has one
+abbrev pub SettledBefore : List Event → Positions → ℕ → ℕ → Type 0
+SettledBefore t c l n = (a b w : ℕ) → AcquireIn t c l a → AcquireIn t c l b → a < b → b < n → ReleaseOf t a w → In w c
+
+-- a position for each lock, before which its acquires tell enough: where each lock is settled before its position, the cut wants no release
+pub record Enough (t : List Event) (bounds ends : List ℕ) : Type 0 where
+  pub whole : length ends ≡ locks
+  pub within : (l : ℕ) → slice_index ends l ≤ length t
+  pub enough : Admits t → ((l : ℕ) → SettledBefore t (held t bounds) l (slice_index ends l)) → Closed LockWants t (held t bounds)
+
+-- how deep a lock is held after an event, whoever holds it
+abbrev pub lock_depth_with : ℕ → ℕ → Event → ℕ
+lock_depth_with l n e = cond (e.subject == l) (deeper e.kind n) n
+
+-- after an event, if there is one
+abbrev pub lock_depth_past : ℕ → ℕ → Option Event → ℕ
+lock_depth_past l n None = n
+lock_depth_past l n (Some e) = lock_depth_with l n e

@@ -1,12 +1,14 @@
 //! Looks for events in a reel.
-ghost use Rattle.std.specs.Prelude.{◌≡◌};
-ghost use Rattle.trace.specs.Lookups.{fits_here, of_thread, writes, releases, previous, last_write, release_of};
+ghost use Rattle.std.specs.Prelude.{◌≡◌, ◌<◌};
+ghost use Rattle.trace.specs.Traces.{deeper};
+ghost use Rattle.trace.specs.Lookups.{fits_here, of_thread, writes, depth_past, previous, last_write, release_of};
 ghost use Rattle.std.specs.List.{slice_get};
 ghost use Rattle.predict.specs.Held.{held, lacks};
 ghost use Rattle.predict.specs.Parts.{acquires};
 
 use crate::cut::Cut;
 use reel::Reel;
+use trace::event::Event;
 use trace::kind::Kind;
 
 /// Whether there is an event of the thread at the position.
@@ -24,20 +26,29 @@ pub fn is_write_at<R: Reel>(reel: &R, position: usize, variable: u16) -> bool
     reel.event(position).is_some_and(|event| event.kind == Kind::Write && event.subject == variable)
 }
 
-/// Whether there is an acquire of the lock at the position.
-pub fn is_acquire_at<R: Reel>(reel: &R, position: usize, lock: u16) -> bool
-    ensures { let t = R.Reel.events reel.now in result ≡ fits_here (acquires lock) (slice_get t position) }
+/// How deep a lock is held after an event of the kind on it.
+pub(crate) fn deeper(kind: Kind, depth: usize) -> usize
+    requires { depth < usize.MAX }
+    ensures { result ≡ deeper kind depth }
 {
-    reel.event(position).is_some_and(|event| event.kind == Kind::Acquire && event.subject == lock)
+    match kind {
+        Kind::Acquire => depth + 1,
+        Kind::Release => depth.saturating_sub(1),
+        Kind::Read | Kind::Write => depth,
+    }
 }
 
-/// Whether there is a release of the lock by the thread at the position.
-fn is_release_at<R: Reel>(reel: &R, position: usize, lock: u16, thread: u8) -> bool
-    ensures { let t = R.Reel.events reel.now in result ≡ fits_here (releases lock thread) (slice_get t position) }
+/// How deep the thread of an acquire is in its lock after the event at the position.
+fn depth_past<R: Reel>(reel: &R, position: usize, acquire: &Event, depth: usize) -> usize
+    requires { depth < usize.MAX }
+    ensures { let t = R.Reel.events reel.now in result ≡ depth_past acquire.now.thread acquire.now.subject depth (slice_get t position) }
 {
-    reel.event(position).is_some_and(|event| {
-        event.kind == Kind::Release && event.subject == lock && event.thread == thread
-    })
+    match reel.event(position) {
+        Some(event) if event.thread == acquire.thread && event.subject == acquire.subject => {
+            deeper(event.kind, depth)
+        }
+        _ => depth,
+    }
 }
 
 /// The last position before this one where its thread has an event.
@@ -62,17 +73,19 @@ pub fn last_write<R: Reel>(reel: &R, position: usize) -> Option<usize>
         .find(|earlier| is_write_at(reel, *earlier, read.subject))
 }
 
-/// Where the thread of the acquire at a position next releases its lock.
+/// Where the thread of the outer acquire at a position next frees its lock.
 pub(crate) fn release_of<R: Reel>(reel: &R, position: usize) -> Option<usize>
     ensures { let t = R.Reel.events reel.now in result ≡ release_of t position }
 {
     let acquire = reel.event(position)?;
-    (position + 1..reel.count()).find(|later| is_release_at(
-        reel,
-        *later,
-        acquire.subject,
-        acquire.thread,
-    ))
+    let mut depth = 1;
+    for later in position + 1..reel.count() {
+        depth = depth_past(reel, later, &acquire, depth);
+        if depth == 0 {
+            return Some(later);
+        }
+    }
+    None
 }
 
 /// Whether there is an event at the position, and the cut has it.

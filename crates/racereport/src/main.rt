@@ -15,7 +15,7 @@ use std::process::ExitCode;
 const RACEREPORT: Program = Program {
     name: "racereport",
     usage: "racereport < DUMP",
-    prints: "Prints the race report of a dump: the number of its events, and a line for each racing pair;\nor the first record that is refused.",
+    prints: "Prints the race report of a dump: the number of its events, a line for each racing\npair, and how many these are; or the first record that is refused.",
     most_words: 0,
 };
 

@@ -6,7 +6,7 @@ use Rattle.std.proofs.lemmas.Option.{none-some, same_Some}
 use Rattle.std.proofs.lemmas.Bool.{false≢true}
 use Rattle.trace.specs.declared.event.Event.{Event}
 use Rattle.trace.specs.declared.kind.Kind.TheVariants.{Write, Acquire}
-use Rattle.trace.specs.Traces.{At, LastWrite}
+use Rattle.trace.specs.Traces.{At, Outer, LastWrite}
 use Rattle.trace.specs.Reorderings.{LatestWrite}
 use Rattle.trace.specs.Locks.{Tells}
 use Rattle.trace.proofs.Lookups.{last_write_found}
@@ -14,19 +14,23 @@ use Rattle.predict.proofs.Tests.{is_earlier}
 use Rattle.reorder.specs.Comes.{Agrees, Comes}
 use Rattle.reorder.proofs.Coming.{comes_at}
 use Rattle.reorder.proofs.Members.{no_place}
-use Rattle.cases.specs.Examples.{event, sections_between, read_between}
+use Rattle.cases.specs.Examples.{event, sections_between, writes_locked, read_between}
 use Rattle.relations.specs.Reorderings.{write_within}
 use Rattle.relations.specs.Next.{AcquiresAgree, ReadAgrees, AcquireComes, TableAnswered}
 use Rattle.relations.specs.Traces.{held_by}
 use Rattle.relations.proofs.Tracing.{held_tells}
 use Rattle.relations.proofs.Reordering.{section_reordering}
 
+-- the acquire of the second thread is outer
+second_outer : Outer writes_locked 3 (event Acquire 1 0 tt tt)
+second_outer = record { is = refl; is_acquire = refl; outside = refl }
+
 pub acquires_agree : AcquiresAgree
-acquires_agree = (λ a m f. before a m, λ h. let b = h 3 (Memᴰ.head refl) (event Acquire 1 0 tt tt) refl refl refl in omega arith)
+acquires_agree = (λ a m f o. before a m, λ h. let b = h 3 (Memᴰ.head refl) (event Acquire 1 0 tt tt) second_outer refl in omega arith)
   where
-    before : (a : ℕ) → Memᴰ a (0 ∷ 2 ∷ []) → {A B C : Type 0} → A → B → C → a < 3
-    before a (Memᴰ.head e) i j k = omega arith
-    before a (Memᴰ.tail m) i j k = let e = Memᴰ.eq_of_singleton m in omega arith
+    before : (a : ℕ) → Memᴰ a (0 ∷ 2 ∷ []) → {A : Type 0} → A → a < 3
+    before a (Memᴰ.head e) i = omega arith
+    before a (Memᴰ.tail m) i = let e = Memᴰ.eq_of_singleton m in omega arith
 
 -- the write to variable 1 is the only one in the list
 module _ (w : ℕ) where
@@ -54,7 +58,7 @@ module _ (w : ℕ) where
 
 pub read_agrees : ReadAgrees
 read_agrees = (
-  record { reads = λ r w. (latest_one w, one_latest w); acquires = λ a. absurd (grind arith) },
+  record { reads = λ r w. (latest_one w, one_latest w); acquires = λ o. let a = o.is_acquire in absurd (grind arith) },
   λ h. let l = (h.reads refl 1).1 (((last_write_found read_between 2).0 1).0 refl) in no_place l.front l.back 1 l.stands,
 )
 
@@ -66,7 +70,9 @@ swap_not_next h =
     let is = h.is in
     let e : event Acquire 0 0 tt tt ≡ h.event = cc in
     let agrees = subst (λ e. Agrees write_within (3 ∷ 4 ∷ []) 0 e) (sym e) h.agrees in
-    let b = agrees.acquires refl 3 (Memᴰ.head refl) (event Acquire 1 0 tt tt) refl refl refl in omega arith
+    let first : Outer write_within 0 (event Acquire 0 0 tt tt) = record { is = refl; is_acquire = refl; outside = refl } in
+    let second : Outer write_within 3 (event Acquire 1 0 tt tt) = record { is = refl; is_acquire = refl; outside = refl } in
+    let b = agrees.acquires first 3 (Memᴰ.head refl) (event Acquire 1 0 tt tt) second refl in omega arith
 
 release_not_first : Comes sections_between [] 4 → ⊥
 release_not_first h = Memᴰ.not-nil (h.enabled.ready 3 (is_earlier sections_between 3 4 refl))
@@ -80,7 +86,7 @@ table_answered = (
   record { right = (λ some. absurd (false≢true some), λ comes. absurd (release_not_first comes)); told = λ table same. absurd (none-some table same) },
   λ h. false≢true (h.right.1 first_comes),
   λ table h. swap_not_next (h.right.0 refl),
-  λ table free h. none-some 1 (sym (free 0) ∙ h.told table refl 0),
+  λ table free h. none-some _ (sym (free 0) ∙ h.told table refl 0),
 )
   where
     tells : Tells (held_by 1) (event Acquire 1 0 tt tt ∷ [])

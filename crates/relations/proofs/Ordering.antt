@@ -29,13 +29,11 @@ release_first = (
     before = lit< tt;
     acquire = event Acquire 1 0 tt tt;
     release = event Release 0 0 tt tt;
-    acquire_is = refl;
-    release_is = refl;
-    is_acquire = refl;
-    is_release = refl;
+    acquires = record { is = refl; is_acquire = refl; outside = refl };
+    frees = record { is = refl; is_release = refl; last = refl };
     same_lock = refl;
   },
-  λ r. let is = r.release_is in let kind = r.is_release in grind arith,
+  λ r. let is = r.frees.is in let kind = r.frees.is_release in grind arith,
 )
 
 -- what is before q is in the closure of q

@@ -7,7 +7,7 @@ use Rattle.std.proofs.lemmas.Bool.{false≢true, cases_lt}
 use Rattle.trace.specs.declared.event.Event.{Event}
 use Rattle.trace.specs.declared.kind.Kind.TheVariants.{Read, Write, Acquire, Release}
 use Rattle.trace.specs.Lookups.{previous}
-use Rattle.trace.specs.Traces.{At, EarlierInThread}
+use Rattle.trace.specs.Traces.{At, EarlierInThread, Outer}
 use Rattle.trace.specs.Reorderings.{Correct, SyncPreserving, Leaves}
 use Rattle.trace.proofs.Events.{earlier_between}
 use Rattle.trace.proofs.Lookups.{previous_from, last_write_found}
@@ -58,7 +58,7 @@ pub thread_order_kept : ThreadOrderKept
 thread_order_kept c = Memᴰ.not-nil (c.thread_prefix [] [] 3 4 refl (is_earlier sections_between 3 4 refl))
 
 pub locks_kept : LocksKept
-locks_kept c = none-some 5 (sym c.locks.1.0)
+locks_kept c = none-some 5 (sym c.admitted.1.0)
 
 pub reads_kept : ReadsKept
 reads_kept c =
@@ -119,10 +119,17 @@ no_read k (Memᴰ.head i) e is r = let h = rw i at is in grind arith
 no_read k (Memᴰ.tail (Memᴰ.head i)) e is r = let h = rw i at is in grind arith
 no_read k (Memᴰ.tail (Memᴰ.tail m)) e is r = let h = rw (Memᴰ.eq_of_singleton m) at is in grind arith
 
--- the acquires stand the other way round
+-- both acquires are outer
+first_outer : Outer write_within 0 (event Acquire 0 0 tt tt)
+first_outer = record { is = refl; is_acquire = refl; outside = refl }
+
+second_outer : Outer write_within 3 (event Acquire 1 0 tt tt)
+second_outer = record { is = refl; is_acquire = refl; outside = refl }
+
+-- they stand the other way round
 pub not_in_order : SyncPreserving write_within (3 ∷ 4 ∷ 0 ∷ []) → ⊥
 not_in_order s =
-    let h = s.in_order (3 ∷ 4 ∷ []) [] 3 0 (event Acquire 1 0 tt tt) (event Acquire 0 0 tt tt) refl (Memᴰ.head refl) refl refl refl refl refl in
+    let h = s.in_order (3 ∷ 4 ∷ []) [] 3 0 (event Acquire 1 0 tt tt) (event Acquire 0 0 tt tt) refl (Memᴰ.head refl) second_outer first_outer refl in
     omega arith
 
 pub swap_refused : SwapRefused
@@ -141,7 +148,7 @@ swap_correct = record {
       (λ h. absurd (none_before write_within 3 d refl h))
       (all_before write_within (3 ∷ []) 4 3 d refl (Memᴰ.head refl) (λ h. absurd (none_before write_within 3 d refl h)))
       (λ h. absurd (none_before write_within 0 d refl h)) xs ys k e;
-  locks = (refl, (refl, (refl, tt)));
+  admitted = (refl, (refl, (refl, tt)));
   reads = λ xs ys k e s is r. absurd (no_read k (subst (Memᴰ k) (sym s) (Memᴰ.append_right xs (Memᴰ.head refl))) e is r);
 }
   where

@@ -6,12 +6,13 @@ use Rattle.trace.specs.declared.event.Event.{Event}
 use Rattle.trace.specs.declared.locks.LockTable.{LockTable}
 use Rattle.trace.specs.declared.locks.TraceFault.{TraceFault}
 use Rattle.trace.specs.declared.locks.TraceFault.TheVariants.{AlreadyHeld}
+use Rattle.trace.specs.Traces.{At, depth_at, ReleaseOf}
 use Rattle.trace.specs.Lookups.{Finds}
 use Rattle.trace.specs.Locks.{Tells, Turned}
 use Rattle.trace.proofs.Lookups.{previous_found, last_write_found, release_found}
 use Rattle.trace.proofs.LockTables.{starts_empty, turned_acquire, refused}
-use Rattle.cases.specs.Examples.{event, sections_between, read_between}
-use Rattle.relations.specs.Traces.{free_table, held_by, NoSecondHolder, PreviousLatest, LastWriteOfVariable, ReleaseOfThread, TableChanges, HeldTurnedAway, TakenWithRoom}
+use Rattle.cases.specs.Examples.{event, sections_between, read_between, inner_section}
+use Rattle.relations.specs.Traces.{free_table, held_by, NoSecondHolder, PreviousLatest, LastWriteOfVariable, ReleaseOfThread, ReleaseFrees, TableChanges, HeldTurnedAway, TakenWithRoom}
 
 pub no_second_holder : NoSecondHolder
 no_second_holder h = none-some 5 (sym h.1.0)
@@ -28,7 +29,22 @@ pub last_write_of_variable : LastWriteOfVariable
 last_write_of_variable = found_alone _ _ (last_write_found read_between 2) 1 0 refl (λ e. omega arith)
 
 pub release_of_thread : ReleaseOfThread
-release_of_thread = found_alone _ _ (release_found sections_between 1 (event Acquire 0 0 tt tt) refl refl) 2 4 refl (λ e. omega arith)
+release_of_thread = found_alone _ _ (release_found sections_between 1 (event Acquire 0 0 tt tt) (record { is = refl; is_acquire = refl; outside = refl })) 2 4 refl (λ e. omega arith)
+
+pub release_frees : ReleaseFrees
+release_frees = (
+  record { is = refl; is_acquire = refl; outside = refl },
+  λ o. inner_one o.is o.outside,
+  frees.0,
+  frees.1,
+)
+  where
+    frees : ReleaseOf inner_section 0 4 × (ReleaseOf inner_section 0 2 → ⊥)
+    frees = found_alone _ _ (release_found inner_section 0 (event Acquire 0 0 tt tt) (record { is = refl; is_acquire = refl; outside = refl })) 4 2
+        refl (λ e. omega arith)
+
+    inner_one : At inner_section 1 (event Acquire 0 0 tt tt) → depth_at inner_section 1 (event Acquire 0 0 tt tt) ≡ 0 → ⊥
+    inner_one i d = omega arith
 
 -- the free table says of each lock that no thread holds it
 pub free_tells : Tells free_table []
@@ -36,14 +52,14 @@ free_tells = starts_empty
 
 -- a free lock is acquired
 acquired : (e : Event) → e.kind ≡ Acquire → e.subject ≡ 0 → let r : Result (Unit {0}) TraceFault = Ok tt in Turned free_table e r (held_by e.thread)
-acquired e kind lock = turned_acquire free_table e (held_by e.thread) kind (rw lock refl) (rw lock refl)
+acquired e kind lock = turned_acquire free_table e (held_by e.thread) None (rw lock refl) (record { thread = e.thread; depth = 1 }) kind refl refl (rw lock refl)
 
 pub held_tells : (e : Event) → e.kind ≡ Acquire → e.subject ≡ 0 → Tells (held_by e.thread) (e ∷ [])
 held_tells e kind lock = (acquired e kind lock).tells [] free_tells
 
 -- no table tells of both
 pub table_stays : (table : LockTable) → Tells table [] → Tells table (event Acquire 0 0 tt tt ∷ []) → ⊥
-table_stays table a b = none-some 0 (sym (a 0) ∙ b 0)
+table_stays table a b = none-some _ (sym (a 0) ∙ b 0)
 
 pub table_changes : TableChanges
 table_changes = (free_tells, held_tells (event Acquire 0 0 tt tt) refl refl, table_stays)
@@ -53,7 +69,7 @@ held_turned_away = (
   acquired (event Acquire 0 0 tt tt) refl refl,
   refused (held_by 0) (event Acquire 1 0 tt tt) AlreadyHeld refl,
   λ table next tells h. none-some 5 (h.answer (event Acquire 0 0 tt tt ∷ []) tells),
-  λ h. none-some 0 (ap (λ (t : LockTable). slice_index_or t.holders 0 None) (h.same refl)),
+  λ h. none-some _ (ap (λ (t : LockTable). slice_index_or t.holders 0 None) (h.same refl)),
   λ h. none-some 5 (sym (h.answer [] free_tells)),
 )
 

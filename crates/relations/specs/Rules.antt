@@ -3,7 +3,7 @@ use Rattle.std.specs.Prelude.{◌≡◌, ℕ, ◌||◌, List, ◌∷◌, Some, N
 use Rattle.trace.specs.Limits.{locks}
 use Rattle.trace.specs.Cuts.{Positions, Laws, SyncWants, HappensBeforeWants, SchedulableWants}
 use Rattle.predict.specs.Held.{NamesOutside, Answers, Misses}
-use Rattle.predict.specs.Parts.{ReadWants, LockWants, PastAcquires}
+use Rattle.predict.specs.Parts.{ReadWants, LockWants, Enough}
 use Rattle.cases.specs.Examples.{sections_between, writes_locked, read_between}
 
 -- one position, and two, as a cut
@@ -58,7 +58,7 @@ MissedOutside =
     NamesOutside writes_locked (bounds 1 4) (Some 2) × (NamesOutside writes_locked (bounds 3 4) (Some 2) → ⊥)
     × Answers SyncWants writes_locked (bounds 3 4) (Some 2) × (Misses SyncWants writes_locked (bounds 3 4) (Some 2) → ⊥)
 
--- the acquires of lock 0 stand before position 4; wrong: a table by which there is none
-abbrev pub AcquiresPassed : Type 0
-AcquiresPassed =
-    PastAcquires writes_locked (bounds 1 4) (slice_set (replicate locks 0) 0 4) × (PastAcquires writes_locked (bounds 1 4) (replicate locks 0) → ⊥)
+-- it is enough to look at the acquires of lock 0 before position 4; wrong: that it is enough to look at none
+abbrev pub SearchEnough : Type 0
+SearchEnough =
+    Enough writes_locked (bounds 1 4) (slice_set (replicate locks 0) 0 4) × (Enough writes_locked (bounds 1 4) (replicate locks 0) → ⊥)

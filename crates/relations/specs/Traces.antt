@@ -8,10 +8,10 @@ use Rattle.trace.specs.declared.locks.TraceFault.{TraceFault}
 use Rattle.trace.specs.declared.locks.TraceFault.TheVariants.{AlreadyHeld}
 use Rattle.trace.specs.Limits.{locks}
 use Rattle.trace.specs.Locks.{Tells, Turned}
-use Rattle.trace.specs.Traces.{Admits, Previous, LastWrite, ReleaseOf}
+use Rattle.trace.specs.Traces.{Admits, Outer, Previous, LastWrite, ReleaseOf}
 use Rattle.reel.specs.declared.ReelFault.{ReelFault}
 use Rattle.reel.specs.Reels.{Taken}
-use Rattle.cases.specs.Examples.{event, sections_between, read_between}
+use Rattle.cases.specs.Examples.{event, sections_between, read_between, inner_section}
 
 -- an event is taken, as a reel answers
 abbrev taken : Result (Unit {0}) ReelFault
@@ -37,12 +37,18 @@ LastWriteOfVariable = LastWrite read_between 2 1 × (LastWrite read_between 2 0 
 abbrev pub ReleaseOfThread : Type 0
 ReleaseOfThread = ReleaseOf sections_between 1 2 × (ReleaseOf sections_between 1 4 → ⊥)
 
--- the table in which no lock is held, and the one in which a thread holds lock 0
+-- an outer acquire, and its release, which frees the lock; wrong: an acquire by the holder, and the inner release
+abbrev pub ReleaseFrees : Type 0
+ReleaseFrees =
+    let e = event Acquire 0 0 tt tt in
+    Outer inner_section 0 e × (Outer inner_section 1 e → ⊥) × ReleaseOf inner_section 0 4 × (ReleaseOf inner_section 0 2 → ⊥)
+
+-- the table in which no lock is held, and the one in which a thread holds lock 0, once deep
 abbrev pub free_table : LockTable
 free_table = record { holders = replicate locks None; whole = refl }
 
 abbrev pub held_by : ℕ → LockTable
-held_by thread = record { holders = slice_set (replicate locks None) 0 (Some thread); whole = refl }
+held_by thread = record { holders = slice_set (replicate locks None) 0 (Some (record { thread = thread; depth = 1 })); whole = refl }
 
 -- the two tables before and after an acquire; wrong: a table that says the same after it as before
 abbrev pub TableChanges : Type 0

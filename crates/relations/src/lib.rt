@@ -3,11 +3,11 @@
 //! with their proofs; the functions do nothing.
 #![tactic(auto)]
 
-ghost use Rattle.relations.specs.Traces.{NoSecondHolder, PreviousLatest, LastWriteOfVariable, ReleaseOfThread, TableChanges, HeldTurnedAway, TakenWithRoom};
+ghost use Rattle.relations.specs.Traces.{NoSecondHolder, PreviousLatest, LastWriteOfVariable, ReleaseOfThread, ReleaseFrees, TableChanges, HeldTurnedAway, TakenWithRoom};
 ghost use Rattle.relations.specs.Reorderings.{AscendingOnly, LatestBehind, InTraceOnly, OnceOnly, ThreadOrderKept, LocksKept, ReadsKept, EnabledAfterAll};
 ghost use Rattle.relations.specs.Reorderings.{SectionsSwapped, SwapRefused, SectionReorders};
 ghost use Rattle.relations.specs.Next.{AcquiresAgree, ReadAgrees, AcquireComes, TableAnswered};
-ghost use Rattle.relations.specs.Rules.{LawsNeedCause, SyncOfTwo, SyncOfRead, ReleaseWanted, BothWanted, HalvesOfSync, ReleaseMissed, MissedOutside, AcquiresPassed};
+ghost use Rattle.relations.specs.Rules.{LawsNeedCause, SyncOfTwo, SyncOfRead, ReleaseWanted, BothWanted, HalvesOfSync, ReleaseMissed, MissedOutside, SearchEnough};
 ghost use Rattle.relations.specs.Closures.{CutFromFirst, LessInside, ClosedWithRelease, ClosureLeast, SeedsPrevious, SeedsInTrace, ReleaseReached, ClosesBetween};
 ghost use Rattle.relations.specs.Closures.{OutsideSections, FoundOutside};
 ghost use Rattle.relations.specs.Orders.{ReleaseFirst, SectionsInOrder, NotBeforeByRead, ReadInOrder, NotScheduledByOther};
@@ -22,7 +22,7 @@ ghost use Rattle.relations.specs.Texts.{RecordsAnswered, RaceTold, WitnessShown,
 
 /// Traces, the table of lock holders, and reels.
 pub fn traces()
-    ensures { NoSecondHolder × PreviousLatest × LastWriteOfVariable × ReleaseOfThread × TableChanges × HeldTurnedAway × TakenWithRoom }
+    ensures { NoSecondHolder × PreviousLatest × LastWriteOfVariable × ReleaseOfThread × ReleaseFrees × TableChanges × HeldTurnedAway × TakenWithRoom }
 {}
 
 /// Reorderings.
@@ -38,7 +38,7 @@ pub fn next_events()
 
 /// Rules.
 pub fn rules()
-    ensures { LawsNeedCause × SyncOfTwo × SyncOfRead × ReleaseWanted × BothWanted × HalvesOfSync × ReleaseMissed × MissedOutside × AcquiresPassed }
+    ensures { LawsNeedCause × SyncOfTwo × SyncOfRead × ReleaseWanted × BothWanted × HalvesOfSync × ReleaseMissed × MissedOutside × SearchEnough }
 {}
 
 /// Cuts and closures.

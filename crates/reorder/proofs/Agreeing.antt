@@ -42,7 +42,7 @@ module _ (t : List Event) (xs : List ℕ) (k : ℕ) (e : Event) where
   read_agrees o p r kind found is h = (
     λ q. record {
       reads = λ read w. Iff.trans (Iff.symm (found w)) (rw ((equal o p r h).0 q ∙ is) ((last_write_found t k).0 w));
-      acquires = λ acquire. absurd (grind arith);
+      acquires = λ outer. let acquire = outer.is_acquire in absurd (grind arith);
     },
     λ a. (equal o p r h).1 (same_option o p (λ w. Iff.trans (found w) (Iff.trans (a.reads kind w) (Iff.symm (rw is ((last_write_found t k).0 w)))))),
   )

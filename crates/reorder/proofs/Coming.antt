@@ -6,8 +6,8 @@ use mathlib.Core.Bool.{Bool-set}
 use Rattle.std.proofs.lemmas.Bool.{cases_eq}
 use Rattle.std.proofs.Math.Logic.{∥∥₁_elim}
 use Rattle.trace.specs.declared.event.Event.{Event}
-use Rattle.trace.specs.declared.kind.Kind.TheVariants.{Read, Acquire}
-use Rattle.trace.specs.Traces.{At, EarlierInThread, Previous, LastWrite}
+use Rattle.trace.specs.declared.kind.Kind.TheVariants.{Read}
+use Rattle.trace.specs.Traces.{At, Outer, EarlierInThread, Previous, LastWrite}
 use Rattle.trace.specs.Reorderings.{LatestWrite, Correct, SyncPreserving, Enabled}
 use Rattle.trace.proofs.Events.{at_same, earlier_between}
 use Rattle.trace.proofs.Places.{Stands, stands, is_member, of_front, members, member_in, in_member}
@@ -40,7 +40,7 @@ module _ (t : List Event) where
       in_trace = λ k i. absurd (Memᴰ.not-nil i);
       once = λ xs ys k u. absurd (no_place xs ys k u);
       thread_prefix = λ xs ys d k u. absurd (no_place xs ys k u);
-      locks = tt;
+      admitted = tt;
       reads = λ xs ys k e u. absurd (no_place xs ys k u);
     };
     sync = record { in_order = λ xs ys a b e f u. absurd (no_place xs ys b u) };
@@ -61,7 +61,7 @@ module _ (t : List Event) where
       in_trace = λ m i. ⊎_elim (ok.in_trace m) (λ (q : m ≡ k). (next.event, subst (λ (j : ℕ). At t j next.event) (sym q) next.is)) (push_cases xs i);
       once = λ ys zs m u i. once ys m (place xs k ys m zs u) i;
       thread_prefix = λ ys zs d m u h. prefix ys d m (place xs k ys m zs u) h;
-      locks = picked_push t xs k next.event next.is ok.locks next.allowed;
+      admitted = picked_push t xs k next.event next.is ok.admitted next.allowed;
       reads = λ ys zs m e u. reads ys m e (place xs k ys m zs u);
     }
       where
@@ -82,12 +82,12 @@ module _ (t : List Event) where
         reads ys m e (within back p q) i = ok.reads ys back m e p i
 
     sync_next : SyncPreserving t (xs ++ (k ∷ []))
-    sync_next = record { in_order = λ ys zs a b e f u i j l c d q. in_order ys a b e f (place xs k ys b zs u) i j l c d q }
+    sync_next = record { in_order = λ ys zs a b e f u i o p q. in_order ys a b e f (place xs k ys b zs u) i o p q }
       where
-        in_order : {zs : List ℕ} (ys : List ℕ) (a b : ℕ) (e f : Event) → Place xs k ys b zs → Memᴰ a ys → At t a e → At t b f → e.kind ≡ Acquire
-            → f.kind ≡ Acquire → e.subject ≡ f.subject → a < b
-        in_order ys a b e f (last p q r) i j l c d s = (agrees_last ys b f p q l).acquires d a i e j c s
-        in_order ys a b e f (within back p q) i j l c d s = old.sync.in_order ys back a b e f p i j l c d s
+        in_order : {zs : List ℕ} (ys : List ℕ) (a b : ℕ) (e f : Event) → Place xs k ys b zs → Memᴰ a ys → Outer t a e → Outer t b f
+            → e.subject ≡ f.subject → a < b
+        in_order ys a b e f (last p q r) i o u s = (agrees_last ys b f p q u.is).acquires u a i e o s
+        in_order ys a b e f (within back p q) i o u s = old.sync.in_order ys back a b e f p i o u s
 
     -- with a position that may come next it stays one
     pub reorders_next : Reorders t (xs ++ (k ∷ []))
@@ -103,7 +103,7 @@ module _ (t : List Event) where
         enabled = record { outside = r.correct.once s.front s.back k s.split; ready = λ d. r.correct.thread_prefix s.front s.back d k s.split };
         agrees = record {
           reads = r.correct.reads s.front s.back k e s.split i;
-          acquires = λ c a m f j d q. r.sync.in_order s.front s.back a k f e s.split m j i d c q;
+          acquires = λ u a m f o q. r.sync.in_order s.front s.back a k f e s.split m o u q;
         };
-        allowed = allowed_at t s e i r.correct.locks;
+        allowed = allowed_at t s e i r.correct.admitted;
       }

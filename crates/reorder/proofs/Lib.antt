@@ -3,3 +3,4 @@ pub mod Members
 pub mod Writes
 pub mod Coming
 pub mod Agreeing
+pub mod Acquires

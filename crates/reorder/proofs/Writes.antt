@@ -1,10 +1,9 @@
--- The latest write to a variable among the positions of a list, as the list gets longer, and the acquires of a lock among them.
-use Rattle.std.proofs.Common.{◌≡◌, ℕ, Bool, true, false, cond, not, ◌||◌, nat_lt, ◌↔◌, List, [], ◌∷◌, ◌++◌, reverse, Option, Some, sym, refl, ap, ◌∙◌, subst, ⊎_elim, append_assoc, arith}
+-- The latest write to a variable among the positions of a list, as the list gets longer.
+use Rattle.std.proofs.Common.{◌≡◌, ℕ, Bool, true, false, cond, ◌↔◌, List, [], ◌∷◌, ◌++◌, reverse, Option, Some, sym, refl, ap, ◌∙◌, subst, ⊎_elim, append_assoc, arith}
 use mathlib.Core.Logic.Iff
 use mathlib.Core.List.Memᴰ
 use mathlib.Core.List.{Memᴰ}
 use Rattle.std.specs.List.{slice_get, find}
-use Rattle.std.proofs.lemmas.Bool.{cases_Bool, or_cases, or_left, or_right, not-true, not_from_false, ltb-true, lt-ltb}
 use Rattle.std.proofs.lemmas.List.{reverse-reverse}
 use Rattle.std.proofs.lemmas.Grind.{reverse_onto}
 use Rattle.trace.specs.declared.event.Event.{Event}
@@ -13,10 +12,7 @@ use Rattle.trace.specs.Traces.{At}
 use Rattle.trace.specs.Lookups.{fits_here, writes}
 use Rattle.trace.specs.Reorderings.{LatestWrite}
 use Rattle.trace.proofs.Lookups.{is_write, as_write}
-use Rattle.predict.specs.Parts.{acquires}
 use Rattle.predict.proofs.Inside.{tested, untested}
-use Rattle.predict.proofs.LockParts.{is_acquire, as_acquire}
-use Rattle.reorder.specs.Comes.{AcquireBefore}
 use Rattle.reorder.proofs.Members.{push_cases, no_place, Place, place}
 use Rattle.reorder.proofs.Members.Place.{last, within}
 
@@ -99,20 +95,3 @@ module _ (t : List Event) (x : ℕ) where
   pub latest_found : (o : Option ℕ) (xs : List ℕ) → o ≡ find (λ k. fits_here (writes x) (slice_get t k)) (reverse xs) → (w : ℕ)
       → (o ≡ Some w) ↔ LatestWrite t xs x w
   latest_found o xs is w = rw is (rw reverse-reverse at (from_the_end (reverse xs) w))
-
--- the test of a position tells whether it is before k, if it is an acquire of the lock
-pub acquire_before : (t : List Event) (k l a : ℕ) → ((nat_lt a k || not (fits_here (acquires l) (slice_get t a))) ≡ true) ↔ AcquireBefore t k l a
-acquire_before t k l a = (there, back)
-  where
-    acquire : Bool
-    acquire = fits_here (acquires l) (slice_get t a)
-
-    there : (nat_lt a k || not acquire) ≡ true → AcquireBefore t k l a
-    there q e i kind lock = ⊎_elim (ltb-true a k) (λ n. absurd (untested (acquires l) t a e (not-true acquire n) i (as_acquire e l kind lock)))
-        (or_cases (nat_lt a k) (not acquire) q)
-
-    back : AcquireBefore t k l a → (nat_lt a k || not acquire) ≡ true
-    back before = ⊎_elim (λ h. let (e, i, does) = tested (acquires l) (slice_get t a) h in
-        let (kind, lock) = is_acquire e l does in
-        or_left (nat_lt a k) (not acquire) (lt-ltb a k (before e i kind lock)))
-        (λ h. or_right (nat_lt a k) (not acquire) (not_from_false acquire h)) (cases_Bool acquire)

@@ -2,9 +2,9 @@
 use Rattle.std.specs.Prelude.{◌≡◌, ℕ, ◌<◌, ◌↔◌, List, [], ◌∷◌, ◌++◌, Option, Some, IsSome}
 use mathlib.Core.List.{Memᴰ}
 use Rattle.trace.specs.declared.event.Event.{Event}
-use Rattle.trace.specs.declared.kind.Kind.TheVariants.{Read, Acquire}
+use Rattle.trace.specs.declared.kind.Kind.TheVariants.{Read}
 use Rattle.trace.specs.declared.locks.LockTable.{LockTable}
-use Rattle.trace.specs.Traces.{At, Allowed, LastWrite, holders_after}
+use Rattle.trace.specs.Traces.{At, Allowed, Outer, LastWrite, standing_after}
 use Rattle.trace.specs.Reorderings.{picked, LatestWrite, Correct, SyncPreserving, Enabled}
 use Rattle.trace.specs.Locks.{Tells}
 
@@ -13,19 +13,19 @@ pub record Reorders (t : List Event) (σ : List ℕ) : Type 0 where
   pub correct : Correct t σ
   pub sync : SyncPreserving t σ
 
--- if a is an acquire of the lock l, it stands before k
+-- if a is an outer acquire of the lock l, it stands before k
 abbrev pub AcquireBefore : List Event → ℕ → ℕ → ℕ → Type 0
-AcquireBefore t k l a = (f : Event) → At t a f → f.kind ≡ Acquire → f.subject ≡ l → a < k
+AcquireBefore t k l a = (f : Event) → Outer t a f → f.subject ≡ l → a < k
 
--- the acquires of the lock l among the positions xs stand before k
+-- the outer acquires of the lock l among the positions xs stand before k
 abbrev pub AcquiredBefore : List Event → List ℕ → ℕ → ℕ → Type 0
 AcquiredBefore t xs k l = (a : ℕ) → Memᴰ a xs → AcquireBefore t k l a
 
 -- the event e at k agrees with the trace after the positions xs: as a read it has its last write as the latest write to its variable there, and
--- as an acquire it comes after the earlier acquires of its lock
+-- as an outer acquire it comes after the earlier outer acquires of its lock
 pub record Agrees (t : List Event) (xs : List ℕ) (k : ℕ) (e : Event) : Type 0 where
   pub reads : e.kind ≡ Read → (w : ℕ) → LatestWrite t xs e.subject w ↔ LastWrite t k w
-  pub acquires : e.kind ≡ Acquire → AcquiredBefore t xs k e.subject
+  pub acquires : Outer t k e → AcquiredBefore t xs k e.subject
 
 -- k may come next after xs: it has an event, which is enabled, agrees with the trace and passes the trace check
 pub record Comes (t : List Event) (xs : List ℕ) (k : ℕ) : Type 0 where
@@ -33,7 +33,7 @@ pub record Comes (t : List Event) (xs : List ℕ) (k : ℕ) : Type 0 where
   pub is : At t k event
   pub enabled : Enabled t xs k
   pub agrees : Agrees t xs k event
-  pub allowed : Allowed (holders_after (picked t xs)) event
+  pub allowed : Allowed (standing_after (picked t xs)) event
 
 -- the answer is a table just if k may come next after xs, and the table then has the holders after it
 pub record Answered (t : List Event) (xs : List ℕ) (k : ℕ) (r : Option LockTable) : Type 0 where

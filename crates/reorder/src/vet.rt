@@ -2,12 +2,12 @@
 ghost use Rattle.std.specs.Prelude.{◌≡◌, ℕ, true, ◌↔◌, Some, IsSome, IfSome};
 ghost use Rattle.std.proofs.Props.{props};
 ghost use mathlib.Core.List.{Memᴰ};
-ghost use Rattle.trace.specs.Traces.{Previous};
+ghost use Rattle.trace.specs.Traces.{At, Previous};
 ghost use Rattle.trace.specs.Reorderings.{picked, LatestWrite, Enabled, Leaves};
 ghost use Rattle.trace.specs.Locks.{Tells};
 ghost use Rattle.reorder.specs.Comes.{Reorders, AcquiredBefore, Agrees, Answered};
 
-use predict::lookup::{is_acquire_at, is_write_at, last_write, previous};
+use predict::lookup::{is_write_at, last_write, previous};
 use reel::Reel;
 use trace::event::Event;
 use trace::kind::Kind;
@@ -85,24 +85,40 @@ impl<'a, R: Reel> Reordering<'a, R> {
             .find(|position| is_write_at(self.reel, *position, variable))
     }
 
-    /// Whether the acquires of the lock in the list stand before the position.
+    /// Whether the outer acquires of the lock in the list stand before the position.
     fn acquired_before(&self, position: usize, lock: u16) -> bool
         ensures { let t = R.Reel.events self.now.reel.now in (result ≡ true) ↔ AcquiredBefore t self.now.list.now position lock }
     {
-        self.list.iter().all(|k| {
+        let mut locks = LockTable::new();
+        for k in self.list.iter() {
             let acquire = usize::from(*k);
-            acquire < position || !is_acquire_at(self.reel, acquire, lock)
-        })
+            if let Some(event) = self.reel.event(acquire) {
+                if event.kind == Kind::Acquire
+                    && event.subject == lock
+                    && acquire >= position
+                    && locks.depth(event.thread, event.subject) == 0
+                {
+                    return false;
+                }
+                // the trace check refuses no event of a reordering
+                let _ = locks.turn(&event);
+            }
+        }
+        true
     }
 
-    /// Whether the event at the position agrees with the trace after the list: a read has its last write there, and an acquire comes after the
-    /// earlier acquires of its lock.
+    /// Whether the event at the position, if that is enabled, agrees with the trace after the list: a read has its last write there, and an
+    /// outer acquire comes after the earlier outer acquires of its lock.
     fn agrees(&self, position: usize, event: &Event) -> bool
-        ensures { let t = R.Reel.events self.now.reel.now in (result ≡ true) ↔ Agrees t self.now.list.now position event.now }
+        ensures { let t = R.Reel.events self.now.reel.now in (At t position event.now → Enabled t self.now.list.now position
+            → (result ≡ true) ↔ Agrees t self.now.list.now position event.now) }
     {
         match event.kind {
             Kind::Read => self.latest_write(event.subject) == last_write(self.reel, position),
-            Kind::Acquire => self.acquired_before(position, event.subject),
+            Kind::Acquire => {
+                self.locks.depth(event.thread, event.subject) > 0
+                    || self.acquired_before(position, event.subject)
+            }
             Kind::Write | Kind::Release => true,
         }
     }

@@ -14,8 +14,7 @@ use Rattle.session.specs.Races.{Races, Judged, pair, SweepOf}
 use Rattle.session.specs.Races.Judged.{refused as refused_pair, race, no_race}
 use Rattle.report.specs.declared.told.Finding.TheVariants.{Refused, Race as Found, Nothing}
 use Rattle.report.specs.Refusals.{refused_question}
-use Rattle.report.specs.Reports.{race_line, RaceLines, SweepLines}
-use Rattle.report.specs.Reports.RaceLines.{none as no_line, more}
+use Rattle.report.specs.Reports.{SweepLines}
 use Rattle.report.specs.Answers.{Answered}
 use Rattle.report.specs.Told.{FindsRaces, AnswersTold, VerdictTold}
 use Rattle.report.specs.Told.FindsRaces.{race as some_race, none}

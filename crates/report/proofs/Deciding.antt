@@ -4,7 +4,7 @@ use Rattle.std.proofs.lemmas.List.{drop-take}
 use Rattle.std.proofs.lemmas.Bool.{le-ltb}
 use Rattle.trace.specs.declared.event.Event.{Event}
 use Rattle.trace.specs.Records.{meaning}
-use Rattle.trace.specs.Traces.{holders_after, trace_refusal}
+use Rattle.trace.specs.Traces.{standing_after, trace_refusal}
 use Rattle.answer.specs.declared.fault.Layer.TheVariants.{Trace, Reel}
 use Rattle.answer.specs.Faults.{Refusal}
 use Rattle.session.specs.Entries.{Outcome, unless, checked, offered, records, record_count, enter_from, enter_all}
@@ -29,7 +29,7 @@ module _ (room : ℕ) where
   -- no record is taken where there is no room
   pub no_more : (t : List Event) (i : ℕ) (m : Result Event ℕ) (e : Event) → room ≤ length t → checked room t i m ≡ Ok e → ⊥
   no_more t i (Err n) e full is = grind arith
-  no_more t i (Ok d) e full is = by (trace_refusal (holders_after t) d) (rw (le-ltb (length t) room full) at is)
+  no_more t i (Ok d) e full is = by (trace_refusal (standing_after t) d) (rw (le-ltb (length t) room full) at is)
     where
       by : (o : Option ℕ) → unless o Trace i (unless (Some 7) Reel i (Ok d)) ≡ Ok e → ⊥
       by (Some n) r = grind arith

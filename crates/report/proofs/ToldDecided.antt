@@ -1,10 +1,10 @@
 -- The first records of a dump decide what is told of it.
-use Rattle.std.proofs.Common.{◌≡◌, ℕ, ◌+◌, ◌*◌, ◌-◌, ◌≤◌, List, [], ◌∷◌, ◌++◌, length, take, drop, Some, None, Ok, Err, Option, Result, sym, refl, ap, ◌∙◌, subst, ⊎_elim, arith, length-append, take-take}
+use Rattle.std.proofs.Common.{◌≡◌, ℕ, ◌+◌, ◌*◌, ◌-◌, ◌≤◌, List, [], ◌∷◌, ◌++◌, length, take, drop, Some, None, Ok, Err, Option, Result, refl, ap, ◌∙◌, subst, ⊎_elim, arith, length-append, take-take}
 use Rattle.std.proofs.lemmas.Bool.{cases_lt}
 use Rattle.std.proofs.lemmas.List.{drop-take}
 use Rattle.trace.specs.declared.event.Event.{Event}
 use Rattle.trace.specs.Records.{meaning}
-use Rattle.trace.specs.Traces.{holders_after, trace_refusal}
+use Rattle.trace.specs.Traces.{standing_after, trace_refusal}
 use Rattle.reel.specs.Reels.{reel_refusal}
 use Rattle.answer.specs.Faults.{Refusal}
 use Rattle.session.specs.Entries.{Outcome, checked, offered, records, record_count, enter_from, enter_all}
@@ -19,9 +19,9 @@ module _ (room : ℕ) where
   -- a refusal has the index of its record
   index_is : (t : List Event) (i : ℕ) (m : Result Event ℕ) (r : Refusal) → checked room t i m ≡ Err r → r.index ≡ i
   index_is t i (Err n) r is = grind arith
-  index_is t i (Ok d) r is = by (trace_refusal (holders_after t) d) (reel_refusal room t) refl refl
+  index_is t i (Ok d) r is = by (trace_refusal (standing_after t) d) (reel_refusal room t) refl refl
     where
-      by : (a b : Option ℕ) → trace_refusal (holders_after t) d ≡ a → reel_refusal room t ≡ b → r.index ≡ i
+      by : (a b : Option ℕ) → trace_refusal (standing_after t) d ≡ a → reel_refusal room t ≡ b → r.index ≡ i
       by (Some n) b q s = let e = rw q at is in grind arith
       by None (Some n) q s = let e = rw (q, s) at is in grind arith
       by None None q s = let e = rw (q, s) at is in absurd (grind arith)

@@ -1,12 +1,10 @@
 -- The text of the answers to the questions about two positions.
-use Rattle.std.specs.Prelude.{◌≡◌, ℕ, Bool, true, false, List, [], ◌++◌, Ok, Err, codes, decimal, Result}
+use Rattle.std.specs.Prelude.{◌≡◌, ℕ, Bool, true, false, List, ◌++◌, Ok, Err, codes, decimal, Result}
 use Rattle.trace.specs.declared.event.Event.{Event}
 use Rattle.trace.specs.Faults.{told}
 use Rattle.answer.specs.declared.fault.PairFault.{PairFault}
 use Rattle.answer.specs.Faults.{pair_number}
-use Rattle.session.specs.Entries.{enter_all}
 use Rattle.session.specs.Questions.{Answers, Unordered, Schedulable, Vetted}
-use Rattle.report.specs.Texts.{After}
 
 -- an answer in a word, or the number of the refusal
 abbrev pub answer_text : Result Bool ℕ → List ℕ

@@ -1,7 +1,7 @@
 -- Why a record or a question is refused, in words.
 use Rattle.std.specs.Prelude.{ℕ, ◌+◌, ◌*◌, cond, List, ◌++◌, length, take, drop, Some, None, Option, codes, decimal, ◌==◌, slice_index}
 use Rattle.trace.specs.declared.kind.Kind.{Kind}
-use Rattle.trace.specs.Limits.{threads, locks, accesses}
+use Rattle.trace.specs.Limits.{threads, locks, accesses, subjects, deepest}
 use Rattle.trace.specs.Records.{kind_of}
 use Rattle.answer.specs.Faults.{Refusal}
 
@@ -17,8 +17,7 @@ subject_in bytes = slice_index bytes 2 + slice_index bytes 3 * 256
 abbrev pub past_limit : Option Kind → ℕ → List ℕ
 past_limit None subject = codes "lock " ++ (decimal subject ++ (codes " is not below " ++ decimal locks))
 past_limit (Some kind) subject =
-    cond (accesses kind) (codes "variable " ++ (decimal subject ++ (codes " is not below " ++ decimal 1024)))
-    (codes "lock " ++ (decimal subject ++ (codes " is not below " ++ decimal locks)))
+    cond (accesses kind) (codes "variable ") (codes "lock ") ++ (decimal subject ++ (codes " is not below " ++ decimal (subjects kind)))
 
 -- why a record is refused with a number, where there is room for so many events
 abbrev pub record_words : ℕ → List ℕ → ℕ → List ℕ
@@ -27,10 +26,13 @@ record_words room bytes number =
     (cond (number == 2) (codes "there is no kind " ++ decimal (slice_index bytes 0))
     (cond (number == 3) (codes "thread " ++ (decimal (slice_index bytes 1) ++ (codes " is not below " ++ decimal threads)))
     (cond (number == 4) (past_limit (kind_of (slice_index bytes 0)) (subject_in bytes))
-    (cond (number == 5) (codes "acquires lock " ++ (decimal (subject_in bytes) ++ codes ", which is held"))
+    (cond (number == 5) (codes "acquires lock " ++ (decimal (subject_in bytes) ++ codes ", which another thread holds"))
+    (cond (number == 13)
+    (codes "acquires lock " ++ (decimal (subject_in bytes) ++ (codes ", which thread " ++ (decimal (slice_index bytes 1)
+    ++ (codes " would hold more than " ++ (decimal deepest ++ codes " deep"))))))
     (cond (number == 6)
     (codes "releases lock " ++ (decimal (subject_in bytes) ++ (codes ", which thread " ++ (decimal (slice_index bytes 1) ++ codes " does not hold"))))
-    (codes "there is room for " ++ (decimal room ++ codes " events")))))))
+    (codes "there is room for " ++ (decimal room ++ codes " events"))))))))
 
 -- why a question is refused with a number, where there are so many events, and it is about the positions p and q
 abbrev pub question_words : ℕ → ℕ → ℕ → ℕ → List ℕ

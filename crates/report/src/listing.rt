@@ -1,7 +1,7 @@
 //! The listing of a dump: a line for each event, then their number; or the line of the first refusal.
 ghost use Rattle.std.specs.Prelude.{◌≡◌, IfOk, Some, string_bytes};
 ghost use Rattle.answer.specs.Faults.{refusal};
-ghost use Rattle.report.specs.Texts.{deed, event_line, event_lines, events_line, listing, refusal_line};
+ghost use Rattle.report.specs.Texts.{deed, level, at_depth, event_line, event_lines, events_line, listing, refusal_line};
 
 use answer::fault::EntryRefusal;
 use reel::Reel;
@@ -11,6 +11,7 @@ use std::fmt;
 use trace::event::Event;
 use trace::fault::Fault;
 use trace::kind::Kind;
+use trace::locks::LockTable;
 
 /// What an event of a kind does, and to what.
 #[derive(Clone, Copy)]
@@ -29,23 +30,58 @@ impl fmt::Display for Deed {
     }
 }
 
-/// The line of the event at a position.
+/// How deep a hold is.
+#[derive(Clone, Copy)]
+struct Level(u16);
+
+impl Level {
+    /// Of the hold that an acquire makes, or that a release ends, where the thread is so deep in the lock before it; accesses have none.
+    fn of(kind: Kind, depth: u8) -> Level
+        ensures { result.0 ≡ level kind depth }
+    {
+        Level(match kind {
+            Kind::Read | Kind::Write => 0,
+            Kind::Acquire => u16::from(depth) + 1,
+            Kind::Release => u16::from(depth),
+        })
+    }
+}
+
+impl fmt::Display for Level {
+    ghost output = { λ l. Some (at_depth l.0) };
+
+    fn fmt<W: fmt::Write>(&self, f: &mut fmt::Formatter<W>) -> fmt::Result {
+        let depth = self.0;
+        if depth > 1 {
+            write!(f, " at depth {depth}")
+        } else {
+            Ok(())
+        }
+    }
+}
+
+/// The line of the event at a position, whose thread is so deep in its lock before it.
 #[derive(Clone, Copy)]
 struct EventLine {
     position: usize,
     event: Event,
+    depth: u8,
 }
 
 impl fmt::Display for EventLine {
-    ghost output = { λ l. Some (event_line l.position l.event) };
+    ghost output = { λ l. Some (event_line l.position l.event l.depth) };
 
     fn fmt<W: fmt::Write>(&self, f: &mut fmt::Formatter<W>) -> fmt::Result {
         let position = self.position;
         let thread = self.event.thread;
         let deed = Deed(self.event.kind);
         let subject = self.event.subject;
+        let level = Level::of(self.event.kind, self.depth);
         let site = self.event.site;
-        writeln!(f, "{position} thread {thread} {deed} {subject} site {site}")
+        writeln!(
+            f,
+            "{position} thread {thread} {deed} {subject}{level} site {site}"
+        )
     }
 }
 
@@ -76,12 +112,21 @@ impl fmt::Display for RefusalLine {
     }
 }
 
-/// The text of the line of the event at a position.
-pub fn event_line(heap: Global, position: usize, event: &Event) -> Result<String, AllocError>
-    ensures { IfOk result (λ s. string_bytes s ≡ event_line position event.now) }
+/// The text of the line of the event at a position, whose thread is so deep in its lock before it.
+pub fn event_line(
+    heap: Global,
+    position: usize,
+    event: &Event,
+    depth: u8,
+) -> Result<String, AllocError>
+    ensures { IfOk result (λ s. string_bytes s ≡ event_line position event.now depth) }
 {
-    let event = *event;
-    EventLine { position, event }.to_string(heap)
+    let line = EventLine {
+        position,
+        event: *event,
+        depth,
+    };
+    line.to_string(heap)
 }
 
 /// The text of the line with the number of events.
@@ -103,12 +148,21 @@ pub fn refusal_line(heap: Global, refused: &EntryRefusal) -> Result<String, Allo
 struct EventLines<'a, R: Reel>(&'a Session<R>);
 
 impl<R: Reel> fmt::Display for EventLines<'_, R> {
-    ghost output = { λ l. Some (event_lines 0 l.0.now.trace) };
+    ghost output = { λ l. Some (event_lines l.0.now.trace 0 l.0.now.trace) };
 
     fn fmt<W: fmt::Write>(&self, f: &mut fmt::Formatter<W>) -> fmt::Result {
+        let mut locks = LockTable::new();
         for (position, event) in self.0.iter().enumerate() {
-            let line = EventLine { position, event };
+            let depth = locks.depth(event.thread, event.subject);
+            let line = EventLine {
+                position,
+                event,
+                depth,
+            };
             write!(f, "{line}")?;
+            let Ok(()) = locks.turn(&event) else {
+                unreachable!()
+            };
         }
         Ok(())
     }

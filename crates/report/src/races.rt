@@ -1,4 +1,4 @@
-//! The race report of a dump: the number of its events and a line for each racing pair, or the line of the first refusal.
+//! The lines of racing pairs, and the line with their number.
 ghost use Rattle.std.specs.Prelude.{◌≡◌, ◌≤◌, map, length, IfOk, Some, string_bytes};
 ghost use Rattle.std.specs.List.{slice_get};
 ghost use Rattle.session.specs.Races.{PartnersOf, pair};

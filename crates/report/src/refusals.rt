@@ -17,6 +17,9 @@ use trace::limits::{LOCKS, THREADS, VARIABLES};
 use trace::locks::TraceFault;
 use trace::record::{RECORD, RecordFault};
 
+/// How deep a lock is held at most: as deep as a byte says.
+const DEEPEST: u8 = u8::MAX;
+
 /// Record `index` of an input.
 fn record_at(input: &[u8], index: usize) -> &[u8]
     ensures { result.now ≡ record_at input.now index }
@@ -100,7 +103,13 @@ impl fmt::Display for RefusedRecord<'_> {
                 PastLimit { kind, subject }.fmt(f)
             }
             EntryFault::Trace(TraceFault::AlreadyHeld) => {
-                write!(f, "acquires lock {subject}, which is held")
+                write!(f, "acquires lock {subject}, which another thread holds")
+            }
+            EntryFault::Trace(TraceFault::TooDeep) => {
+                write!(
+                    f,
+                    "acquires lock {subject}, which thread {thread} would hold more than {DEEPEST} deep"
+                )
             }
             EntryFault::Trace(TraceFault::NotHolder) => {
                 write!(

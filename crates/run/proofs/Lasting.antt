@@ -4,7 +4,7 @@ use mathlib.Core.List.Memᴰ
 use mathlib.Core.List.{Memᴰ}
 use Rattle.std.specs.List.{slice_get}
 use Rattle.trace.specs.declared.event.Event.{Event}
-use Rattle.trace.specs.Traces.{all_free, Admits}
+use Rattle.trace.specs.Traces.{at_start, Admits}
 use Rattle.trace.specs.Lookups.{latest, of_thread, from_event, previous, previous_events}
 use Rattle.trace.specs.Reorderings.{Ascending}
 use Rattle.trace.specs.Cuts.{Positions, In, Closure, SyncWants, listed}
@@ -47,7 +47,7 @@ module _ (t u : List Event) where
     seeds_same = rw (previous_longer p (omega arith), previous_longer q inside) refl
 
     pub front : Admits t
-    front = ((admits_append all_free t u).0 admitted).0
+    front = ((admits_append at_start t u).0 admitted).0
 
     -- one cut is the sync closure of their previous events in both traces
     pub one_closure : (c : Positions) × Closure SyncWants t (previous_events t (p ∷ q ∷ [])) c

@@ -2,7 +2,7 @@
 use Rattle.std.proofs.Common.{◌≡◌, ℕ, zero, suc, ◌+◌, ◌%◌, ◌≤◌, Bool, true, false, cond, eqb, List, [], ◌∷◌, ◌++◌, length, take, Some, None, Ok, Err, vec_items, fold, Option, Result, sym, refl, ap, ◌∙◌, subst, append_assoc, append-nil, arith}
 use Rattle.trace.specs.declared.event.Event.{Event}
 use Rattle.trace.specs.Records.{meaning}
-use Rattle.trace.specs.Traces.{all_free, Allowed, Admits, holders_after, trace_refusal}
+use Rattle.trace.specs.Traces.{at_start, Allowed, Admits, standing_after, trace_refusal}
 use Rattle.trace.proofs.Holders.{admits_push}
 use Rattle.reel.specs.Reels.{reel_refusal}
 use Rattle.answer.specs.declared.fault.Layer.TheVariants.{Trace, Reel}
@@ -29,14 +29,14 @@ goes_on {t} g h = record {
 }
 
 -- an event that is offered and taken passes the trace check
-offered_allowed : (room : ℕ) (t : List Event) (i : ℕ) (m : Result Event ℕ) (e : Event) → checked room t i m ≡ Ok e → Allowed (holders_after t) e
+offered_allowed : (room : ℕ) (t : List Event) (i : ℕ) (m : Result Event ℕ) (e : Event) → checked room t i m ≡ Ok e → Allowed (standing_after t) e
 offered_allowed room t i (Err n) e is = absurd (grind arith)
-offered_allowed room t i (Ok f) e is = by (trace_refusal (holders_after t) f) refl (reel_refusal room t) is
+offered_allowed room t i (Ok f) e is = by (trace_refusal (standing_after t) f) refl (reel_refusal room t) is
   where
-    by : (o : Option ℕ) → trace_refusal (holders_after t) f ≡ o → (r : Option ℕ) → unless o Trace i (unless r Reel i (Ok f)) ≡ Ok e → Allowed (holders_after t) e
+    by : (o : Option ℕ) → trace_refusal (standing_after t) f ≡ o → (r : Option ℕ) → unless o Trace i (unless r Reel i (Ok f)) ≡ Ok e → Allowed (standing_after t) e
     by (Some n) q r h = absurd (grind arith)
     by None q (Some n) h = absurd (grind arith)
-    by None q None h = let same : f ≡ e = cc in subst (Allowed (holders_after t)) same q
+    by None q None h = let same : f ≡ e = cc in subst (Allowed (standing_after t)) same q
 
 -- so each step goes on
 module _ (room : ℕ) where
@@ -47,7 +47,7 @@ module _ (room : ℕ) where
       by : (o : Result Event Refusal) → offered room t i bytes ≡ o → Goes t (then t o next).events
       by (Err f) q = stays t
       by (Ok e) q =
-          goes_on (record { more = e ∷ []; is = refl; admitted = λ a. admits_push all_free t e a (offered_allowed room t i (meaning bytes) e q) })
+          goes_on (record { more = e ∷ []; is = refl; admitted = λ a. admits_push at_start t e a (offered_allowed room t i (meaning bytes) e q) })
           (goes (t ++ (e ∷ [])))
 
   from_goes : (t : List Event) (i : ℕ) (rs : List (List ℕ)) → Goes t (enter_from room t i rs).events

@@ -4,7 +4,7 @@ use Rattle.trace.specs.declared.event.Event.{Event}
 use Rattle.trace.specs.declared.locks.LockTable.{LockTable}
 use Rattle.trace.specs.declared.locks.TraceFault.{TraceFault}
 use Rattle.trace.specs.Records.{meaning, record_of}
-use Rattle.trace.specs.Traces.{all_free}
+use Rattle.trace.specs.Traces.{at_start}
 use Rattle.trace.specs.Locks.{Turned}
 use Rattle.trace.proofs.Holders.{admits_push}
 use Rattle.reel.specs.declared.ReelFault.{ReelFault}
@@ -56,7 +56,7 @@ module _ (room : ℕ) (t : List Event) (lent loan : List ℕ) (bytes : List ℕ)
           answer = rw (← means, q, n) refl;
           events = rw (← means, q, n) taken.events;
           recorded = record { new = e ∷ []; added = taken.events; as_recorded = rw (← back) refl };
-          admitted = λ a. rw taken.events (admits_push all_free t e a q);
+          admitted = λ a. rw taken.events (admits_push at_start t e a q);
           room = room_is;
           lent = lent_is;
           loan = loan_is;
@@ -74,4 +74,4 @@ pub stands_more : (room : ℕ) (t : List Event) (table next : LockTable) (e : Ev
     → Taken {A = Unit {0}} room t e (Ok tt) u → Stands next u
 stands_more room t table next e u s turned taken =
     let q = sym (turned.answer t s.tells) in
-    rw taken.events (record { admitted = admits_push all_free t e s.admitted q; tells = turned.tells t s.tells })
+    rw taken.events (record { admitted = admits_push at_start t e s.admitted q; tells = turned.tells t s.tells })

@@ -4,11 +4,12 @@ use mathlib.Core.Logic.{dite}
 use native.Mathlib.Decide.{dec_lt}
 use Rattle.std.proofs.lemmas.Bool.{eq-eqb}
 use Rattle.trace.specs.declared.event.Event.{Event}
+use Rattle.trace.specs.declared.hold.Hold.{Hold}
 use Rattle.trace.specs.declared.kind.Kind.{Kind}
 use Rattle.trace.specs.declared.kind.Kind.TheVariants.{Read, Write, Acquire, Release}
-use Rattle.trace.specs.Limits.{threads, subjects}
-use Rattle.trace.specs.Records.{kind_of, event_of, event_if_known, meaning}
-use Rattle.trace.specs.Traces.{holders_after, refusal_by, trace_refusal}
+use Rattle.trace.specs.Limits.{threads, subjects, deepest}
+use Rattle.trace.specs.Records.{event_if_known, meaning}
+use Rattle.trace.specs.Traces.{standing_after, lock_refusal, trace_refusal}
 use Rattle.reel.specs.Reels.{reel_refusal}
 use Rattle.answer.specs.declared.fault.Layer.TheVariants.{Trace, Reel}
 use Rattle.answer.specs.Faults.{Refusal}
@@ -36,13 +37,18 @@ known_not_one (Some k) t x i = parts_not_one k t x i (dec_lt t threads) (dec_lt 
 meaning_not_one : (bytes : List ℕ) → length bytes ≡ 8 → NotOne (meaning bytes)
 meaning_not_one bytes long = rw (eq-eqb (length bytes) 8 long) (known_not_one _ _ _ _)
 
-holder_not_one : (k : Kind) (thread : ℕ) (holder : Option ℕ) → NotOneIf (refusal_by k thread holder)
-holder_not_one Read thread holder = tt
-holder_not_one Write thread holder = tt
-holder_not_one Acquire thread None = tt
-holder_not_one Acquire thread (Some other) = λ e. omega arith
-holder_not_one Release thread None = λ e. omega arith
-holder_not_one Release thread (Some other) = by (other == thread)
+hold_not_one : (k : Kind) (thread : ℕ) (hold : Option Hold) → NotOneIf (lock_refusal k thread hold)
+hold_not_one Read thread hold = tt
+hold_not_one Write thread hold = tt
+hold_not_one Acquire thread None = tt
+hold_not_one Acquire thread (Some h) = by (h.thread == thread) (nat_lt h.depth deepest)
+  where
+    by : (b c : Bool) → NotOneIf (cond b (cond c None (Some 13)) (Some 5))
+    by true true = tt
+    by true false = λ e. omega arith
+    by false c = λ e. omega arith
+hold_not_one Release thread None = λ e. omega arith
+hold_not_one Release thread (Some h) = by (h.thread == thread)
   where
     by : (b : Bool) → NotOneIf (cond b None (Some 6))
     by true = tt
@@ -64,7 +70,7 @@ not_one room t i bytes r long = by (meaning bytes) (meaning_not_one bytes long)
     by : (m : Result Event ℕ) → NotOne m → checked room t i m ≡ Err r → r.number ≡ 1 → ⊥
     by (Err n) x is one = let same : n ≡ r.number = grind arith in x (same ∙ one)
     by (Ok e) x is one =
-        by_layers e (trace_refusal (holders_after t) e) (reel_refusal room t) (holder_not_one e.kind e.thread (holders_after t e.subject))
+        by_layers e (trace_refusal (standing_after t) e) (reel_refusal room t) (hold_not_one e.kind e.thread ((standing_after t).holders e.subject))
         (full_not_one (nat_lt (length t) room)) is one
 
 -- where there are bytes enough for as many records

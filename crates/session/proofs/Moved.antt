@@ -3,7 +3,7 @@ use Rattle.std.proofs.Common.{◌≡◌, ℕ, List, Some, None, Ok, Err, Option,
 use Rattle.trace.specs.declared.event.Event.{Event}
 use Rattle.trace.specs.Faults.{told}
 use Rattle.trace.specs.Records.{meaning}
-use Rattle.trace.specs.Traces.{holders_after, trace_refusal}
+use Rattle.trace.specs.Traces.{standing_after, trace_refusal}
 use Rattle.reel.specs.Reels.{reel_refusal}
 use Rattle.answer.specs.declared.fault.EntryRefusal.{EntryRefusal}
 use Rattle.answer.specs.Faults.{Refusal, refusal, at_index}
@@ -25,9 +25,9 @@ module _ (room : ℕ) (t : List Event) (i : ℕ) where
 
   checked_at : (m : Result Event ℕ) → checked room t i m ≡ told (with_index i) (checked room t 0 m)
   checked_at (Err n) = refl
-  checked_at (Ok e) = by (trace_refusal (holders_after t) e) (reel_refusal room t) refl refl
+  checked_at (Ok e) = by (trace_refusal (standing_after t) e) (reel_refusal room t) refl refl
     where
-      by : (a b : Option ℕ) → trace_refusal (holders_after t) e ≡ a → reel_refusal room t ≡ b
+      by : (a b : Option ℕ) → trace_refusal (standing_after t) e ≡ a → reel_refusal room t ≡ b
           → checked room t i (Ok e) ≡ told (with_index i) (checked room t 0 (Ok e))
       by (Some n) b q r = rw q refl
       by None (Some n) q r = rw (q, r) refl

@@ -6,7 +6,7 @@ use Rattle.std.proofs.lemmas.List.Elements.{All-take, All-drop}
 use Rattle.std.proofs.lemmas.Bool.{cases_lt, le-ltb}
 use Rattle.trace.specs.declared.event.Event.{Event}
 use Rattle.trace.specs.Records.{meaning, record_of}
-use Rattle.trace.specs.Traces.{all_free, Allowed, Admits, holders_after, trace_refusal}
+use Rattle.trace.specs.Traces.{at_start, Allowed, Admits, standing_after, trace_refusal}
 use Rattle.trace.proofs.Holders.{admits_append, admits_push}
 use Rattle.trace.proofs.Records.{record_means, meaning_back}
 use Rattle.reel.specs.Reels.{reel_refusal}
@@ -26,19 +26,19 @@ module _ (room : ℕ) (t : List Event) where
 
   -- the event e passes the trace check after t, and there is room for it
   pub record Next (e : Event) : Type 0 where
-    pub allowed : Allowed (holders_after t) e
+    pub allowed : Allowed (standing_after t) e
     pub within : length t < room
 
   -- it can follow t, and what can follow then can follow t behind it; and the other way round
   pub follows : (e : Event) → Next e → Admits t → CanFollow room t (e ∷ [])
-  follows e n a = (admits_push all_free t e a n.allowed, let w = n.within in omega (arith, length-append t (e ∷ [])))
+  follows e n a = (admits_push at_start t e a n.allowed, let w = n.within in omega (arith, length-append t (e ∷ [])))
 
   pub joined : (e : Event) (es : List Event) → CanFollow room (t ++ (e ∷ [])) es → CanFollow room t (e ∷ es)
   joined e es f = subst (λ (u : List Event). Admits u × (length u ≤ room)) (append_assoc t (e ∷ []) es) f
 
   pub split : (e : Event) (es : List Event) → CanFollow room t (e ∷ es) → Next e × CanFollow room (t ++ (e ∷ [])) es
   split e es f = (
-    record { allowed = ((admits_append all_free t (e ∷ es)).0 f.0).1.0; within = let w = f.1 in omega (arith, length-append t (e ∷ es)) },
+    record { allowed = ((admits_append at_start t (e ∷ es)).0 f.0).1.0; within = let w = f.1 in omega (arith, length-append t (e ∷ es)) },
     subst (λ (u : List Event). Admits u × (length u ≤ room)) (sym (append_assoc t (e ∷ []) es)) f,
   )
 
@@ -51,28 +51,28 @@ module _ (room : ℕ) (t : List Event) where
     pub taken_next : (bytes : List ℕ) (e : Event) → AreBytes bytes → offered room t i bytes ≡ Ok e → (record_of e ≡ bytes) × Next e
     taken_next bytes e h is = by_meaning (meaning bytes) refl is
       where
-        by_reel : (d : Event) (o : Option ℕ) → meaning bytes ≡ Ok d → Allowed (holders_after t) d → reel_refusal room t ≡ o
+        by_reel : (d : Event) (o : Option ℕ) → meaning bytes ≡ Ok d → Allowed (standing_after t) d → reel_refusal room t ≡ o
             → unless o Reel i (Ok d) ≡ Ok e → (record_of e ≡ bytes) × Next e
         by_reel d (Some n) m a q r = absurd (grind arith)
         by_reel d None m a q r =
             let same : d ≡ e = cc in (
               meaning_back bytes e (small bytes h) (m ∙ ap (λ (x : Event). Ok x) same),
-              record { allowed = subst (Allowed (holders_after t)) same a; within = room_left q },
+              record { allowed = subst (Allowed (standing_after t)) same a; within = room_left q },
             )
 
-        by_trace : (d : Event) (o : Option ℕ) → meaning bytes ≡ Ok d → trace_refusal (holders_after t) d ≡ o
+        by_trace : (d : Event) (o : Option ℕ) → meaning bytes ≡ Ok d → trace_refusal (standing_after t) d ≡ o
             → unless o Trace i (unless (reel_refusal room t) Reel i (Ok d)) ≡ Ok e → (record_of e ≡ bytes) × Next e
         by_trace d (Some n) m q r = absurd (grind arith)
         by_trace d None m q r = by_reel d (reel_refusal room t) m q refl r
 
         by_meaning : (m : Result Event ℕ) → meaning bytes ≡ m → checked room t i m ≡ Ok e → (record_of e ≡ bytes) × Next e
         by_meaning (Err n) q r = absurd (grind arith)
-        by_meaning (Ok d) q r = by_trace d (trace_refusal (holders_after t) d) q refl r
+        by_meaning (Ok d) q r = by_trace d (trace_refusal (standing_after t) d) q refl r
 
     -- a refusal has the index of the record
     pub index_told : (m : Result Event ℕ) (f : Refusal) → checked room t i m ≡ Err f → f.index ≡ i
     index_told (Err n) f is = grind arith
-    index_told (Ok d) f is = by (trace_refusal (holders_after t) d) (reel_refusal room t) is
+    index_told (Ok d) f is = by (trace_refusal (standing_after t) d) (reel_refusal room t) is
       where
         by : (o r : Option ℕ) → unless o Trace i (unless r Reel i (Ok d)) ≡ Err f → f.index ≡ i
         by (Some n) r h = grind arith

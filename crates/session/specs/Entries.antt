@@ -6,7 +6,7 @@ use Rattle.trace.specs.declared.event.Event.{Event}
 use Rattle.trace.specs.declared.locks.LockTable.{LockTable}
 use Rattle.trace.specs.Faults.{told}
 use Rattle.trace.specs.Records.{meaning, record_of}
-use Rattle.trace.specs.Traces.{Admits, holders_after, trace_refusal}
+use Rattle.trace.specs.Traces.{Admits, standing_after, trace_refusal}
 use Rattle.trace.specs.Locks.{Tells}
 use Rattle.reel.specs.Reels.{reel_refusal}
 use Rattle.reel.specs.Lent.{recorded_in}
@@ -24,7 +24,7 @@ unless (Some n) layer i next = Err (record { number = n; layer = layer; index = 
 -- the event that a record means, if the trace check admits it and there is room
 abbrev pub checked : ℕ → List Event → ℕ → Result Event ℕ → Result Event Refusal
 checked room t i (Err n) = Err (record { number = n; layer = Record; index = i })
-checked room t i (Ok e) = unless (trace_refusal (holders_after t) e) Trace i (unless (reel_refusal room t) Reel i (Ok e))
+checked room t i (Ok e) = unless (trace_refusal (standing_after t) e) Trace i (unless (reel_refusal room t) Reel i (Ok e))
 
 -- what becomes of record i of a call: its event is taken, or the first check that fails refuses it
 abbrev pub offered : ℕ → List Event → ℕ → List ℕ → Result Event Refusal

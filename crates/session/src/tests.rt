@@ -33,7 +33,7 @@ fn enters<R: Reel + Drop>(rt: &impl Abort, reel: R) -> Result<(), Fail> {
         Some((6, Layer::Trace, 0))
     );
     assert_eq!(rt;
-        refused(session.enter(&record(Kind::Acquire, 0, 0))),
+        refused(session.enter(&record(Kind::Acquire, 1, 0))),
         Some((5, Layer::Trace, 0))
     );
     assert_eq!(rt;

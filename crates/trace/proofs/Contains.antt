@@ -1,19 +1,18 @@
 -- A sync-preserving correct reordering that leaves some events enabled has all positions of the closure of their seeds.
-use Rattle.std.proofs.Common.{◌≡◌, ℕ, ◌<◌, List, sym, refl, ap, ◌∙◌, ⊎_elim, arith}
+use Rattle.std.proofs.Common.{◌≡◌, ℕ, ◌<◌, List, sym, refl, ⊎_elim, arith}
 use mathlib.Core.List.Memᴰ
 use mathlib.Core.List.{Memᴰ}
 use Rattle.std.proofs.lemmas.Bool.{cases_order}
 use Rattle.trace.specs.declared.event.Event.{Event}
-use Rattle.trace.specs.declared.kind.Kind.TheVariants.{Acquire, Release}
-use Rattle.trace.specs.Traces.{At, EarlierInThread, LastWrite, ReleaseOf}
+use Rattle.trace.specs.Traces.{At, Outer, EarlierInThread, LastWrite, ReleaseOf}
 use Rattle.trace.specs.Reorderings.{Correct, SyncPreserving, Leaves}
 use Rattle.trace.specs.Cuts.{Positions, In, Cut, Closed, Closure, SyncWants, SeedsOf}
 use Rattle.trace.specs.Cuts.SyncWants.{last_write, earlier_release}
 use Rattle.trace.proofs.Events.{at_inside}
 use Rattle.trace.proofs.Places.{Stands, at_split, stands, is_member, of_front, in_front, in_back, Side, side, before, here, behind, members, member_in, in_member}
-use Rattle.trace.proofs.Holders.{may_acquire}
-use Rattle.trace.proofs.Picked.{holders, admits_before, allowed_at}
-use Rattle.trace.proofs.LockEvents.{LockEvent, FirstRelease, first_release}
+use Rattle.trace.proofs.Picked.{admits_before, allowed_at}
+use Rattle.trace.proofs.Owning.{correct_orderly, orderly_front}
+use Rattle.trace.proofs.Releases.{release_among}
 
 module _ (t : List Event) (σ : List ℕ) (correct : Correct t σ) where
   -- two laws of a correct reordering, at a place of it
@@ -48,66 +47,33 @@ module _ (t : List Event) (σ : List ℕ) (correct : Correct t σ) where
       let u = (correct.reads s.front s.back k l.read s.split l.read_is l.is_read w).1 l in
       of_front s (is_member (at_split u.front u.back u.stands))
 
-  -- it has the release of an acquire a that stands before another acquire b of the lock: the lock is free at b, so the acquirer released it
-  -- at some x between, and that is the first release behind a in the trace or a later one of the same thread
-  has_release : {a b : ℕ} (w : ℕ) (s : Stands b σ) (e f : Event) → Memᴰ a s.front → At t a e → At t b f → e.kind ≡ Acquire
-      → f.kind ≡ Acquire → e.subject ≡ f.subject → ReleaseOf t a w → Memᴰ w σ
-  has_release {a} {b} w s e f i j o q u v r = ⊎_elim (λ g. Memᴰ.cast g (is_member there)) (⊎_elim earlier (λ g. absurd (not_later g)))
-      (cases_order w x.position)
-    where
-      at_a : LockEvent t s.front Acquire f.subject e.thread
-      at_a = record { position = a; place = stands i; event = e; is = j; its_kind = q; its_lock = v; its_thread = refl }
-
-      found : FirstRelease t at_a.place.back f.subject e.thread
-      found = first_release t f.subject e.thread at_a (admits_before t s f o correct.locks)
-          (may_acquire f (holders t s.front) u (allowed_at t s f o correct.locks))
-
-      x : LockEvent t at_a.place.back Release f.subject e.thread
-      x = found.0
-
-      there : Stands x.position σ
-      there = in_front s (in_back at_a.place x.place)
-
-      behind_a : a < x.position
-      behind_a = thread_order there e x.event (Memᴰ.append_right at_a.place.front (Memᴰ.head refl)) j x.is (sym x.its_thread)
-
-      one : r.acquire ≡ e
-      one = cc r.acquire_is
-
-      earlier : w < x.position → Memᴰ w σ
-      earlier g = of_front there (earlier_in_front there (record {
-        before = g;
-        first = r.release;
-        second = x.event;
-        first_is = r.release_is;
-        second_is = x.is;
-        same_thread = r.same_thread ∙ ap (λ g. g.thread) one ∙ sym x.its_thread;
-      }))
-
-      not_later : x.position < w → ⊥
-      not_later g = r.none_between x.position x.event behind_a g x.is x.its_kind (x.its_lock ∙ sym v ∙ ap (λ g. g.subject) (sym one))
-          (x.its_thread ∙ ap (λ g. g.thread) (sym one))
+  -- it has the release of an outer acquire a that stands before another outer acquire b of the lock
+  has_release : {a b : ℕ} (w : ℕ) (s : Stands b σ) (e f : Event) → Memᴰ a s.front → Outer t a e → Outer t b f → e.subject ≡ f.subject → ReleaseOf t a w
+      → Memᴰ w σ
+  has_release {a} {b} w s e f member o p same rel =
+      let order = correct_orderly t σ correct in
+      of_front s (release_among t s.front (orderly_front t σ order s) (admits_before t s f p.is correct.admitted) b f p (order.enabled s)
+      (allowed_at t s f p.is correct.admitted) a w e member o same rel)
 
   module _ (sync : SyncPreserving t σ) where
-    -- of two acquires of one lock, the earlier stands before the later
-    acquire_order : {a b : ℕ} (s : Stands b σ) (e f : Event) → Memᴰ a σ → a < b → At t a e → At t b f → e.kind ≡ Acquire → f.kind ≡ Acquire
-        → e.subject ≡ f.subject → Memᴰ a s.front
-    acquire_order {a} {b} s e f i h j o q u v = of_side (side s i)
+    -- of two outer acquires of one lock, the earlier stands before the later
+    acquire_order : {a b : ℕ} (s : Stands b σ) (e f : Event) → Memᴰ a σ → a < b → Outer t a e → Outer t b f → e.subject ≡ f.subject → Memᴰ a s.front
+    acquire_order {a} {b} s e f i h j o v = of_side (side s i)
       where
         of_side : Side a b s.front s.back → Memᴰ a s.front
         of_side (before k) = k
         of_side (here k) = absurd (omega arith)
         of_side (behind k) =
             let p = in_back s (stands k) in
-            let turned = sync.in_order p.front p.back b a f e p.split (Memᴰ.append_right s.front (Memᴰ.head refl)) o j u q (sym v) in
+            let turned = sync.in_order p.front p.back b a f e p.split (Memᴰ.append_right s.front (Memᴰ.head refl)) o j (sym v) in
             absurd (omega arith)
 
     -- so its positions are closed under the sync rule
     members_closed : Closed SyncWants t (members σ)
     members_closed w (last_write {k = k} h l) = member_in (has_write k w (in_member k σ h) l)
-    members_closed w (earlier_release {a = a} {b = b} {e = e} {f = f} h g l i j q u v r) =
+    members_closed w (earlier_release {a = a} {b = b} {e = e} {f = f} h g l i j v r) =
         let s = stands (in_member b σ g) in
-        member_in (has_release w s e f (acquire_order s e f (in_member a σ h) l i j q u v) i j q u v r)
+        member_in (has_release w s e f (acquire_order s e f (in_member a σ h) l i j v) i j v r)
 
 -- They hold the seeds too, so the least such cut lies among them.
 pub contains : (t : List Event) (es ss : List ℕ) (c : Positions) (σ : List ℕ) → SeedsOf t es ss → Closure SyncWants t ss c → Leaves t es σ → (k : ℕ)

@@ -1,8 +1,9 @@
 -- Which positions of a trace have an event, and what a trace and a longer one have in common.
 use Rattle.std.proofs.Common.{◌≡◌, ℕ, zero, suc, ◌<◌, List, [], ◌∷◌, ◌++◌, length, sym, refl, ◌∙◌, arith}
 use Rattle.std.specs.List.{slice_get}
+use Rattle.std.proofs.lemmas.List.{take-append-le}
 use Rattle.trace.specs.declared.event.Event.{Event}
-use Rattle.trace.specs.Traces.{At, EarlierInThread, LastWrite, ReleaseOf}
+use Rattle.trace.specs.Traces.{At, Outer, Frees, EarlierInThread, LastWrite, ReleaseOf}
 
 -- an event stands below the length
 pub at_inside : (t : List Event) (k : ℕ) (e : Event) → At t k e → k < length t
@@ -95,21 +96,38 @@ module _ (t u : List Event) where
     none_between = λ m e a b p. h.none_between m e a b (at_longer m e p);
   }
 
-  -- releases of acquires
+  -- outer acquires, releases that free their locks, and releases of acquires
+  pub outer_longer : (k : ℕ) (e : Event) → Outer t k e → Outer (t ++ u) k e
+  outer_longer k e h =
+      let i = at_inside t k e h.is in
+      record { is = at_longer k e h.is; is_acquire = h.is_acquire; outside = rw (take-append-le k t u (omega arith)) h.outside }
+
+  pub outer_shorter : (k : ℕ) (e : Event) → k < length t → Outer (t ++ u) k e → Outer t k e
+  outer_shorter k e i h =
+      record { is = at_shorter k e i h.is; is_acquire = h.is_acquire; outside = rw (take-append-le k t u (omega arith)) at h.outside }
+
+  pub frees_longer : (k : ℕ) (e : Event) → Frees t k e → Frees (t ++ u) k e
+  frees_longer k e h =
+      let i = at_inside t k e h.is in
+      record { is = at_longer k e h.is; is_release = h.is_release; last = rw (take-append-le k t u (omega arith)) h.last }
+
+  pub frees_shorter : (k : ℕ) (e : Event) → k < length t → Frees (t ++ u) k e → Frees t k e
+  frees_shorter k e i h =
+      record { is = at_shorter k e i h.is; is_release = h.is_release; last = rw (take-append-le k t u (omega arith)) at h.last }
+
   pub release_longer : (a r : ℕ) → ReleaseOf t a r → ReleaseOf (t ++ u) a r
   release_longer a r h =
-      let i : r < length t = at_inside t r h.release h.release_is in
+      let i : r < length t = at_inside t r h.release h.frees.is in
       record {
         after = h.after;
         acquire = h.acquire;
         release = h.release;
         acquire_is = at_longer a h.acquire h.acquire_is;
-        release_is = at_longer r h.release h.release_is;
         is_acquire = h.is_acquire;
-        is_release = h.is_release;
+        frees = frees_longer r h.release h.frees;
         same_lock = h.same_lock;
         same_thread = h.same_thread;
-        none_between = λ m e b c p. h.none_between m e b c (at_shorter m e (omega arith) p);
+        none_between = λ m e b c p. h.none_between m e b c (frees_shorter m e (omega arith) p);
       }
 
   pub release_shorter : (a r : ℕ) → r < length t → ReleaseOf (t ++ u) a r → ReleaseOf t a r
@@ -117,11 +135,10 @@ module _ (t u : List Event) where
     after = h.after;
     acquire = h.acquire;
     release = h.release;
-    acquire_is = at_shorter a h.acquire (omega arith) h.acquire_is;
-    release_is = at_shorter r h.release i h.release_is;
+    acquire_is = at_shorter a h.acquire (omega (arith, h.after)) h.acquire_is;
     is_acquire = h.is_acquire;
-    is_release = h.is_release;
+    frees = frees_shorter r h.release i h.frees;
     same_lock = h.same_lock;
     same_thread = h.same_thread;
-    none_between = λ m e b c p. h.none_between m e b c (at_longer m e p);
+    none_between = λ m e b c p. h.none_between m e b c (frees_longer m e p);
   }

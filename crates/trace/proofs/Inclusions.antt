@@ -14,10 +14,10 @@ use Rattle.trace.proofs.Closures.{closure_inside}
 -- what the sync rule wants, the rule of schedulable happens-before wants
 pub sync_wants_schedulable : (t : List Event) (c : Positions) (w : ℕ) → Admits t → SyncWants t c w → SchedulableWants t c w
 sync_wants_schedulable t c w ok (last_write i lw) = of_read i lw
-sync_wants_schedulable t c w ok (earlier_release {a} {b} {e} {f} i j lt p q ie if same rel) =
-    let e_is : e ≡ rel.acquire = at_same t a e rel.acquire p rel.acquire_is in
-    let before = release_before_next t a b e f ok lt p q ie if same w rel in
-    as_before (release_before j before q rel.release_is if rel.is_release (cc))
+sync_wants_schedulable t c w ok (earlier_release {a} {b} {e} {f} i j lt p q same rel) =
+    let e_is : e ≡ rel.acquire = at_same t a e rel.acquire p.is rel.acquire_is in
+    let before = release_before_next t a b e f ok lt p q same w rel in
+    as_before (release_before j before q rel.frees (cc (rel.same_lock)))
 
 -- so its closures hold those under the sync rule
 pub sync_inside_schedulable : SyncInsideSchedulable

@@ -3,50 +3,51 @@ use Rattle.std.proofs.Common.{◌≡◌, ℕ, ◌<◌, ◌≤◌, true, false, c
 use Rattle.std.proofs.lemmas.Bool.{cases_eq, cases_lt, eq-eqb, ne_eqb}
 use Rattle.std.proofs.lemmas.List.{get_or-replicate, get_or_past}
 use Rattle.trace.specs.declared.event.Event.{Event}
+use Rattle.trace.specs.declared.hold.Hold.{Hold}
 use Rattle.trace.specs.declared.kind.Kind.{Kind}
 use Rattle.trace.specs.declared.kind.Kind.TheVariants.{Read, Write, Acquire, Release}
 use Rattle.trace.specs.declared.locks.LockTable.{LockTable}
 use Rattle.trace.specs.declared.locks.TraceFault.{TraceFault}
 use Rattle.trace.specs.Limits.{accesses, locks}
 use Rattle.trace.specs.Faults.{trace_number}
-use Rattle.trace.specs.Traces.{all_free, after_event, holders_after, trace_refusal}
-use Rattle.trace.specs.Locks.{holders, Turned}
-use Rattle.trace.proofs.Holders.{after_append, same_refusal, same_turn}
+use Rattle.trace.specs.Traces.{at_start, entered, left, after_event, standing_after, lock_refusal, trace_refusal}
+use Rattle.trace.specs.Locks.{standing, SameStanding, Turned}
+use Rattle.trace.proofs.Holders.{after_append, same_refusal, same_after_event}
 
 -- a table that starts with nothing has nothing of any lock
-pub starts_empty : (l : ℕ) → get_or {A = Option ℕ} (replicate locks None) l None ≡ None
+pub starts_empty : {A : Type 0} (l : ℕ) → get_or {A = Option A} (replicate locks None) l None ≡ None
 starts_empty l =
     ⊎_elim (λ (h : l < locks). get_or-replicate locks l None None h) (λ (h : locks ≤ l). get_or_past (replicate locks None) l None h) (cases_lt l locks)
 
--- one holder written
-pub put_holder : (hs : List (Option ℕ)) (s : ℕ) (x : Option ℕ) (l : ℕ) → s < length hs
+-- one hold written
+put_hold : (hs : List (Option Hold)) (s : ℕ) (x : Option Hold) (l : ℕ) → s < length hs
     → get_or (set hs s x) l None ≡ cond (eqb l s) x (get_or hs l None)
-put_holder hs s x l h =
+put_hold hs s x l h =
     ⊎_elim (λ (e : l ≡ s). let b = eq-eqb l s e in rw b (rw e (get_or-set_same hs s x None h)))
     (λ (n : l ≡ s → ⊥). let b = ne_eqb l s n in rw b (get_or-set_other hs s l x None n))
     (cases_eq l s)
 
 module _ (table : LockTable) (e : Event) where
   -- an event that the trace check lets come
-  pub turned : (next : LockTable) → trace_refusal (holders table) e ≡ None → ((l : ℕ) → holders next l ≡ after_event (holders table) e l)
+  pub turned : (next : LockTable) → trace_refusal (standing table) e ≡ None → SameStanding (standing next) (after_event (standing table) e)
       → Turned table e (Ok tt) next
   turned next lets step =
       record {
-        by_holders = sym lets;
-        holders_then = step;
-        answer = λ t tells. sym (sym (same_refusal (holders table) (holders_after t) e tells) ∙ lets);
-        tells = λ t tells l. step l ∙ same_turn e.kind e.thread e.subject (holders table) (holders_after t) tells l
-            ∙ sym (ap (λ h. h l) (after_append all_free t (e ∷ [])));
+        by_standing = sym lets;
+        standing_then = step;
+        answer = λ t tells. sym (sym (same_refusal (standing table) (standing_after t) e tells) ∙ lets);
+        tells = λ t tells l. step l ∙ same_after_event (standing table) (standing_after t) e tells l
+            ∙ sym (ap (λ s. s.holders l) (after_append at_start t (e ∷ [])));
         same = λ q. absurd (grind arith);
       }
 
   -- and one that it turns away
-  pub refused : (f : TraceFault) → trace_refusal (holders table) e ≡ Some (trace_number f) → Turned table e (Err f) table
+  pub refused : (f : TraceFault) → trace_refusal (standing table) e ≡ Some (trace_number f) → Turned table e (Err f) table
   refused f is =
       record {
-        by_holders = sym is;
-        holders_then = λ l. refl;
-        answer = λ t tells. sym (sym (same_refusal (holders table) (holders_after t) e tells) ∙ is);
+        by_standing = sym is;
+        standing_then = λ l. refl;
+        answer = λ t tells. sym (sym (same_refusal (standing table) (standing_after t) e tells) ∙ is);
         tells = λ t tells. tells;
         same = λ q. refl;
       }
@@ -68,17 +69,17 @@ module _ (table : LockTable) (e : Event) where
       let w = table.whole in
       omega arith
 
-  module _ (next : LockTable) where
-    -- a free lock is acquired
-    pub turned_acquire : e.kind ≡ Acquire → get_or table.holders e.subject None ≡ None
-        → next.holders ≡ set table.holders e.subject (Some e.thread) → Turned table e (Ok tt) next
-    turned_acquire kind was is =
-        turned next (rw (kind, was) refl)
-        (λ l. rw (kind, is) (put_holder table.holders e.subject (Some e.thread) l (lock_within Acquire kind refl)))
+  module _ (next : LockTable) (o : Option Hold) (was : get_or table.holders e.subject None ≡ o) where
+    -- a lock is acquired that is free, or that its thread holds
+    pub turned_acquire : (h : Hold) → e.kind ≡ Acquire → lock_refusal Acquire e.thread o ≡ None → Some h ≡ entered e.thread o
+        → next.holders ≡ set table.holders e.subject (Some h) → Turned table e (Ok tt) next
+    turned_acquire h kind lets new is =
+        turned next (rw (kind, was) lets)
+        (λ l. rw (kind, is, was, ← new) (put_hold table.holders e.subject (Some h) l (lock_within Acquire kind refl)))
 
     -- a lock is released by its holder
-    pub turned_release : (thread : ℕ) → e.kind ≡ Release → get_or table.holders e.subject None ≡ Some thread → thread ≡ e.thread
-        → next.holders ≡ set table.holders e.subject None → Turned table e (Ok tt) next
-    turned_release thread kind was own is =
-        turned next (rw (kind, was, eq-eqb thread e.thread own) refl)
-        (λ l. rw (kind, is) (put_holder table.holders e.subject None l (lock_within Release kind refl)))
+    pub turned_release : e.kind ≡ Release → lock_refusal Release e.thread o ≡ None → next.holders ≡ set table.holders e.subject (left o)
+        → Turned table e (Ok tt) next
+    turned_release kind lets is =
+        turned next (rw (kind, was) lets)
+        (λ l. rw (kind, is, was) (put_hold table.holders e.subject (left o) l (lock_within Release kind refl)))

@@ -30,16 +30,18 @@ previous_events = (refl, refl, refl, refl)
 last_writes : (last_write reads_and_writes 2 ≡ Some 1) × (last_write reads_and_writes 3 ≡ None) × (last_write reads_and_writes 4 ≡ None)
 last_writes = (refl, refl, refl)
 
--- thread 0 takes and gives back the locks 5 and 6, one inside the other, then thread 1 takes 5
+-- thread 0 takes the lock 5, inside it 6 and 5 again, and gives them back, then thread 1 takes 5
 abbrev sections : List Event
 sections =
     event Acquire 0 5 (omega arith) (omega arith) ∷
     event Acquire 0 6 (omega arith) (omega arith) ∷
+    event Acquire 0 5 (omega arith) (omega arith) ∷
+    event Release 0 5 (omega arith) (omega arith) ∷
     event Release 0 6 (omega arith) (omega arith) ∷
     event Release 0 5 (omega arith) (omega arith) ∷
     event Acquire 1 5 (omega arith) (omega arith) ∷
     []
 
--- the releases; the last acquire has none
-releases : (release_of sections 0 ≡ Some 3) × (release_of sections 1 ≡ Some 2) × (release_of sections 4 ≡ None)
+-- the releases; that of the first acquire is not the inner one, and the last acquire has none
+releases : (release_of sections 0 ≡ Some 5) × (release_of sections 1 ≡ Some 4) × (release_of sections 6 ≡ None)
 releases = (refl, refl, refl)

@@ -1,5 +1,5 @@
 -- The lookups of the previous event, the last write and the release of an acquire find what the relations name.
-use Rattle.std.proofs.Common.{◌≡◌, ℕ, suc, ◌<◌, ◌≤◌, Bool, true, false, ◌&&◌, eqb, ◌↔◌, List, length, Some, None, Option, sym, refl, ap, ◌∙◌, arith}
+use Rattle.std.proofs.Common.{◌≡◌, ℕ, suc, ◌-◌, ◌<◌, ◌≤◌, Bool, true, false, eqb, ◌↔◌, List, length, Some, None, Option, sym, refl, ap, ◌∙◌, arith}
 use mathlib.Core.Logic.Iff
 use Rattle.std.proofs.lemmas.Bool.{both_ways, eqb-true, eq-eqb, and_parts, and_from}
 use Rattle.std.specs.List.{slice_get}
@@ -7,9 +7,10 @@ use Rattle.trace.specs.declared.event.Event.{Event}
 use Rattle.trace.specs.declared.kind.Kind.{Kind}
 use Rattle.trace.specs.declared.kind.Kind.TheVariants.{Read, Write, Acquire, Release}
 use Rattle.trace.specs.Traces.{At, EarlierInThread, Previous, LastWrite, ReleaseOf}
-use Rattle.trace.specs.Lookups.{earliest, reading, writing, releasing, of_thread, writes, releases, previous, last_write, release_of, Finds, PreviousFound, LastWriteFound, ReleaseFound}
-use Rattle.trace.proofs.Events.{at_same}
-use Rattle.trace.proofs.Searches.{Latest, Earliest, latest_found, earliest_found, latest_from}
+use Rattle.trace.specs.Lookups.{reading, writing, of_thread, writes, freeing, previous, last_write, release_of, Finds, PreviousFound, LastWriteFound, ReleaseFound}
+use Rattle.trace.proofs.Events.{at_same, at_inside}
+use Rattle.trace.proofs.Searches.{Latest, latest_found, latest_from}
+use Rattle.trace.proofs.Sections.{FreeingIs, freeing_is, outer_after, freed_release, release_freed, release_only}
 
 -- the tests of an event say what they should
 is_reading : (k : Kind) → reading k ≡ true → k ≡ Read
@@ -24,12 +25,6 @@ is_writing Read h = absurd (grind arith)
 is_writing Acquire h = absurd (grind arith)
 is_writing Release h = absurd (grind arith)
 
-is_releasing : (k : Kind) → releasing k ≡ true → k ≡ Release
-is_releasing Release h = refl
-is_releasing Read h = absurd (grind arith)
-is_releasing Write h = absurd (grind arith)
-is_releasing Acquire h = absurd (grind arith)
-
 module _ (e : Event) where
   pub is_write : (x : ℕ) → writes x e ≡ true → (e.kind ≡ Write) × (e.subject ≡ x)
   is_write x h = let (k, s) = and_parts (writing e.kind) (eqb e.subject x) h in (is_writing e.kind k, eqb-true e.subject x s)
@@ -37,18 +32,7 @@ module _ (e : Event) where
   pub as_write : (x : ℕ) → e.kind ≡ Write → e.subject ≡ x → writes x e ≡ true
   as_write x k s = and_from (writing e.kind) (eqb e.subject x) (ap writing k) (eq-eqb e.subject x s)
 
-  pub is_release : (l p : ℕ) → releases l p e ≡ true → (e.kind ≡ Release) × (e.subject ≡ l) × (e.thread ≡ p)
-  is_release l p h =
-      let (k, r) = and_parts (releasing e.kind) (eqb e.subject l && eqb e.thread p) h in
-      let (s, w) = and_parts (eqb e.subject l) (eqb e.thread p) r in
-      (is_releasing e.kind k, eqb-true e.subject l s, eqb-true e.thread p w)
-
-  pub as_release : (l p : ℕ) → e.kind ≡ Release → e.subject ≡ l → e.thread ≡ p → releases l p e ≡ true
-  as_release l p k s w =
-      and_from (releasing e.kind) (eqb e.subject l && eqb e.thread p) (ap releasing k)
-      (and_from (eqb e.subject l) (eqb e.thread p) (eq-eqb e.subject l s) (eq-eqb e.thread p w))
-
--- each relation names the latest or the earliest event that passes such a test
+-- each relation names the latest event that passes such a test
 module _ (t : List Event) (k : ℕ) (e : Event) (i : At t k e) where
   -- the previous event is the latest earlier one of the thread
   previous_latest : (d : ℕ) → Latest (of_thread e.thread) t k d ↔ Previous t k d
@@ -99,37 +83,6 @@ module _ (t : List Event) (k : ℕ) (e : Event) (i : At t k e) where
         },
   )
 
-  -- the release of an acquire is the earliest later release of its lock by its thread
-  release_earliest : e.kind ≡ Acquire → (r : ℕ) → Earliest (releases e.subject e.thread) t (suc k) r ↔ ReleaseOf t k r
-  release_earliest acquire r = (
-    λ l. let (kind, lock, thread) = is_release l.event e.subject e.thread l.does in
-        record {
-          after = l.from;
-          acquire = e;
-          release = l.event;
-          acquire_is = i;
-          release_is = l.is;
-          is_acquire = acquire;
-          is_release = kind;
-          same_lock = lock;
-          same_thread = thread;
-          none_between = λ m f g b j q v u. l.none_between m f g b j (as_release f e.subject e.thread q v u);
-        },
-    λ l.
-        let one : l.acquire ≡ e = at_same t k l.acquire e l.acquire_is i in
-        let lock : l.acquire.subject ≡ e.subject = ap (λ f. f.subject) one in
-        let thread : l.acquire.thread ≡ e.thread = ap (λ f. f.thread) one in
-        record {
-          from = l.after;
-          event = l.release;
-          is = l.release_is;
-          does = as_release l.release e.subject e.thread l.is_release (l.same_lock ∙ lock) (l.same_thread ∙ thread);
-          none_between = λ m f g b j q.
-              let (kind, v, u) = is_release f e.subject e.thread q in
-              l.none_between m f g b j kind (v ∙ sym lock) (u ∙ sym thread);
-        },
-  )
-
 -- a lookup that finds just what stands in a relation finds none just if there is none
 finds : (o : Option ℕ) (R : ℕ → Type 0) → ((p : ℕ) → (o ≡ Some p) ↔ R p) → Finds o R
 finds o R some = (some, (λ q p r. let z = (some p).1 r in grind arith, λ nothing. none nothing o refl))
@@ -161,21 +114,25 @@ last_write_found t k = finds (last_write t k) (LastWrite t k) (λ w. at_event w 
             no_read : LastWrite t k w → ⊥
             no_read l = both_ways (reading e.kind) q (ap (λ (f : Event). reading f.kind) (at_same t k e l.read i l.read_is) ∙ ap reading l.is_read)
 
--- the lookup of releases is right at acquires
+-- the lookup of releases is right at outer acquires
 pub release_found : ReleaseFound
-release_found t a e i acquire = finds (release_of t a) (ReleaseOf t a)
-    (λ r. rw i (Iff.trans (search_found r) (release_earliest t a e i acquire r)))
+release_found t a e o = finds (release_of t a) (ReleaseOf t a) (λ r. rw o.is (search_found r))
   where
-    search_found : (r : ℕ) → (earliest (releases e.subject e.thread) t (suc a) (length t) ≡ Some r) ↔ Earliest (releases e.subject e.thread) t (suc a) r
-    search_found r = earliest_found (releases e.subject e.thread) t (suc a) (length t) r (omega arith)
+    search : Option ℕ
+    search = freeing e.thread e.subject t 1 (suc a) (length t - suc a)
 
--- an acquire has one release at most
-pub release_only : (t : List Event) (a p q : ℕ) → ReleaseOf t a p → ReleaseOf t a q → p ≡ q
-release_only t a p q one two =
-    let find = (release_found t a one.acquire one.acquire_is one.is_acquire).0 in
-    let x = (find p).1 one in
-    let y = (find q).1 two in
-    cc
+    search_found : (r : ℕ) → (search ≡ Some r) ↔ ReleaseOf t a r
+    search_found r = (λ q. freed_release t a e o r (rw q at is).0, λ h. back h search is)
+      where
+        is : FreeingIs e.thread e.subject t (suc a) (length t - suc a) search
+        is = freeing_is e.thread e.subject t (length t - suc a) (suc a) 1 (outer_after t a e o)
+
+        back : ReleaseOf t a r → (x : Option ℕ) → FreeingIs e.thread e.subject t (suc a) (length t - suc a) x → x ≡ Some r
+        back h None none =
+            let f = release_freed t a e o r h in
+            let i = at_inside t r h.release h.frees.is in
+            absurd (omega (arith, none r f.from (omega (arith, f.from)), f.out))
+        back h (Some q) (f, b) = ap Some (release_only t a e o q r (freed_release t a e o q f) h)
 
 -- if k has an earlier event of its thread, it has a previous event, and no earlier than that one
 pub previous_from : (t : List Event) (d k : ℕ) → EarlierInThread t d k → (p : ℕ) × Previous t k p × (d ≤ p)

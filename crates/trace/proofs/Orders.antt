@@ -32,7 +32,7 @@ module _ (wants : Wants) (t : List Event) (R : ℕ → ℕ → Type 0)
 -- a closed cut holds with an event all that is before it in the order
 module _ (t : List Event) (c : Positions) (cut : Cut t c) where
   released_wanted : (w k : ℕ) → ReleaseBefore t w k → In k c → HappensBeforeWants t c w
-  released_wanted w k h i = release_before i h.before h.acquire_is h.release_is h.is_acquire h.is_release h.same_lock
+  released_wanted w k h i = release_before i h.before h.acquires h.frees h.same_lock
 
   -- happens-before
   before_in : Closed HappensBeforeWants t c → (p k : ℕ) → HappensBefore t p k → In k c → In p c
@@ -51,8 +51,7 @@ module _ (t : List Event) (c : Positions) (cut : Cut t c) where
 
 -- what a cut wants is before one of its events
 released_by : (t : List Event) (c : Positions) (w : ℕ) → HappensBeforeWants t c w → (k : ℕ) × In k c × ReleaseBefore t w k
-released_by t c w (release_before {a} {e} {f} i lt p q ie if on) =
-    (a, i, record { before = lt; acquire = e; release = f; acquire_is = p; release_is = q; is_acquire = ie; is_release = if; same_lock = on })
+released_by t c w (release_before {a} {e} {f} i lt p q on) = (a, i, record { before = lt; acquire = e; release = f; acquires = p; frees = q; same_lock = on })
 
 before_wanted : (t : List Event) (c : Positions) (w : ℕ) → HappensBeforeWants t c w → (k : ℕ) × In k c × HappensBefore t w k
 before_wanted t c w h = let r = released_by t c w h in (r.0, r.1, released r.2)

@@ -1,71 +1,60 @@
--- In an admitted trace the release of an acquire stands before the next acquire of the lock.
-use Rattle.std.proofs.Common.{◌≡◌, ℕ, ◌<◌, List, sym, refl, ◌∙◌, arith}
+-- In an admitted trace an outer acquire finds its lock free, so the release of an earlier acquire of the lock stands before it; and likewise in a
+-- list of positions.
+use Rattle.std.proofs.Common.{◌≡◌, ℕ, suc, ◌<◌, List, [], ◌∷◌, take, None, sym, refl, ap, ◌∙◌, arith}
 use mathlib.Core.List.{Memᴰ}
 use Rattle.trace.specs.declared.event.Event.{Event}
 use Rattle.trace.specs.declared.kind.Kind.TheVariants.{Acquire}
-use Rattle.trace.specs.Traces.{At, Admits, ReleaseOf}
-use Rattle.trace.specs.Cuts.{listed}
-use Rattle.trace.proofs.Places.{Stands, stands, is_member, of_back}
-use Rattle.trace.specs.Reorderings.{Ascending}
-use Rattle.trace.proofs.Ascending.{above, lesser, greater, ascending_back}
-use Rattle.trace.proofs.Listing.{listed_within, listed_all, listed_ascending}
-use Rattle.trace.proofs.Lookups.{release_only}
-use Rattle.trace.proofs.Holders.{may_acquire, release_not_quiet}
-use Rattle.trace.proofs.Picked.{holders}
-use Rattle.trace.proofs.LockEvents.{LockEvent, FirstRelease, first_release}
-use Rattle.trace.proofs.Prefixes.{everything, admits_first, allowed}
+use Rattle.trace.specs.Traces.{At, at_start, standing_after, Allowed, Admits, depth, Outer, ReleaseOf}
+use Rattle.trace.specs.Reorderings.{picked, Enabled}
+use Rattle.trace.proofs.Holders.{admits_append, admits_take}
+use Rattle.trace.proofs.Depths.{held_as_deep, held_deep, acquire_outside}
+use Rattle.trace.proofs.Events.{at_same}
+use Rattle.trace.proofs.Sections.{take_next, freed_before, release_only}
+use Rattle.trace.proofs.Owning.{Orderly, owned, depth_enabled}
 
--- the first release behind an acquire, among the first events of the trace, is its release
-release_of_first : (t : List Event) (k l w : ℕ) (a : LockEvent t (listed everything k) Acquire l w) (r : FirstRelease t a.place.back l w)
-    → ReleaseOf t a.position r.0.position
-release_of_first t k l w a r = record {
-  after = above s up y member;
-  acquire = a.event;
-  release = r.0.event;
-  acquire_is = a.is;
-  release_is = r.0.is;
-  is_acquire = a.its_kind;
-  is_release = r.0.its_kind;
-  same_lock = r.0.its_lock ∙ sym a.its_lock;
-  same_thread = r.0.its_thread ∙ sym a.its_thread;
-  none_between = λ m e g b i q u v. release_not_quiet e q (u ∙ a.its_lock) (r.1 m e (between m g b) i);
-}
-  where
-    y : ℕ
-    y = r.0.position
+-- an event of an admitted trace is allowed after those before it
+pub allowed_in : (t : List Event) (k : ℕ) (e : Event) → Admits t → At t k e → Allowed (standing_after (take k t)) e
+allowed_in t k e ok i = ((admits_append at_start (take k t) (e ∷ [])).0 (rw (take_next t k e i) at (admits_take t (suc k) ok))).1.0
 
-    s : Stands a.position (listed everything k)
-    s = a.place
+module _ (us : List Event) (ok : Admits us) (f : Event) (allowed : Allowed (standing_after us) f) (kind : f.kind ≡ Acquire)
+    (out : depth f.thread f.subject us ≡ 0) where
+  -- an acquire that is allowed to a thread outside the lock finds the lock free
+  pub free_then : (standing_after us).holders f.subject ≡ None
+  free_then = acquire_outside f.thread _ (rw kind at allowed) (held_as_deep us ok f.thread f.subject ∙ out) (held_deep us ok f.subject)
 
-    up : Ascending (listed everything k)
-    up = listed_ascending everything k
+  -- so no thread is in the lock
+  pub none_in : (q : ℕ) → depth q f.subject us ≡ 0
+  none_in q = sym (held_as_deep us ok q f.subject) ∙ rw free_then refl
 
-    member : Memᴰ y s.back
-    member = is_member r.0.place
+-- before an outer acquire of an admitted trace its lock is free, and no thread is in it
+pub free_before : (t : List Event) (b : ℕ) (f : Event) → Admits t → Outer t b f → (standing_after (take b t)).holders f.subject ≡ None
+free_before t b f ok o = free_then (take b t) (admits_take t b ok) f (allowed_in t b f ok o.is) o.is_acquire o.outside
 
-    between : (m : ℕ) → a.position < m → m < y → Memᴰ m r.0.place.front
-    between m g b =
-        let u = (listed_within everything k y (of_back s member)).1 in
-        lesser r.0.place (ascending_back s up) m (greater s up m (listed_all everything k m refl (omega arith)) g) b
+pub none_before : (t : List Event) (b : ℕ) (f : Event) → Admits t → Outer t b f → (q : ℕ) → depth q f.subject (take b t) ≡ 0
+none_before t b f ok o = none_in (take b t) (admits_take t b ok) f (allowed_in t b f ok o.is) o.is_acquire o.outside
 
-module _ (t : List Event) (a b : ℕ) (e f : Event) (admits : Admits t) (order : a < b) (i : At t a e) (j : At t b f) (p : e.kind ≡ Acquire)
-    (q : f.kind ≡ Acquire) (same : e.subject ≡ f.subject) where
-  -- of two acquires of one lock, the first has a release, and before the second: there the lock is free
+module _ (t : List Event) (a b : ℕ) (e f : Event) (ok : Admits t) (order : a < b) (o : Outer t a e) (p : Outer t b f)
+    (same : e.subject ≡ f.subject) where
+  -- of two outer acquires of one lock, the first has a release, and before the second
   pub release_between : (r : ℕ) × ReleaseOf t a r × (r < b)
-  release_between =
-      let before = (listed_within everything b r.0.position (of_back first.place (is_member r.0.place))).1 in
-      (r.0.position, release_of_first t b f.subject e.thread first r, before)
-    where
-      first : LockEvent t (listed everything b) Acquire f.subject e.thread
-      first = record { position = a; place = stands (listed_all everything b a refl order); event = e; is = i; its_kind = p; its_lock = same; its_thread = refl }
-
-      r : FirstRelease t first.place.back f.subject e.thread
-      r = first_release t f.subject e.thread first (admits_first t admits b)
-          (may_acquire f (holders t (listed everything b)) q (allowed t admits b f j))
+  release_between = freed_before t a e o b order (rw same (none_before t b f ok p e.thread))
 
   -- so its release stands before the second
   pub release_before_next : (r : ℕ) → ReleaseOf t a r → r < b
   release_before_next r h =
       let (x, is, before) = release_between in
-      let one : r ≡ x = release_only t a r x h is in
+      let one : r ≡ x = release_only t a e o r x h is in
       omega arith
+
+-- of an outer acquire among positions after which another of the lock may come next, the release is among them
+pub release_among : (t : List Event) (xs : List ℕ) → Orderly t xs → Admits (picked t xs) → (b : ℕ) (f : Event) → Outer t b f → Enabled t xs b
+    → Allowed (standing_after (picked t xs)) f → (a w : ℕ) (e : Event) → Memᴰ a xs → Outer t a e → e.subject ≡ f.subject → ReleaseOf t a w
+    → Memᴰ w xs
+release_among t xs order ok b f p enabled allowed a w e member o same rel =
+    let (n, own) = owned t e.thread xs order in
+    let out = depth_enabled t xs b f order p.is enabled f.subject ∙ p.outside in
+    let none = rw (← same) at (none_in (picked t xs) ok f allowed p.is_acquire out e.thread) in
+    let (r, is, before) = freed_before t a e o n (own.only a e o.is refl member) (sym (own.depths e.subject) ∙ none) in
+    let one : w ≡ r = release_only t a e o w r rel is in
+    let its : rel.release.thread ≡ e.thread = rel.same_thread ∙ ap (λ (x : Event). x.thread) (at_same t a rel.acquire e rel.acquire_is o.is) in
+    own.has w rel.release rel.frees.is its (omega arith)

@@ -6,16 +6,16 @@ use Rattle.trace.specs.Cuts.{Positions, In, Inside, Laws, SyncWants, HappensBefo
 use Rattle.trace.specs.Cuts.SyncWants.{last_write, earlier_release}
 use Rattle.trace.specs.Cuts.HappensBeforeWants.{release_before}
 use Rattle.trace.specs.Cuts.SchedulableWants.{as_before, last_write as of_read}
-use Rattle.trace.proofs.Events.{at_longer, at_shorter, last_write_longer, last_write_shorter, release_longer, release_shorter}
+use Rattle.trace.proofs.Events.{outer_longer, outer_shorter, frees_longer, frees_shorter, last_write_longer, last_write_shorter, release_longer, release_shorter}
 use Rattle.trace.proofs.Releases.{release_before_next}
 
 -- a wanted event stands before an event of the cut
 sync_earlier : (t : List Event) (c : Positions) (w : ℕ) → Admits t → SyncWants t c w → (k : ℕ) × In k c × (w < k)
 sync_earlier t c w ok (last_write {k} i lw) = (k, i, lw.before)
-sync_earlier t c w ok (earlier_release {a} {b} {e} {f} i j lt p q ie if same rel) = (b, j, release_before_next t a b e f ok lt p q ie if same w rel)
+sync_earlier t c w ok (earlier_release {a} {b} {e} {f} i j lt p q same rel) = (b, j, release_before_next t a b e f ok lt p q same w rel)
 
 before_earlier : (t : List Event) (c : Positions) (w : ℕ) → HappensBeforeWants t c w → (k : ℕ) × In k c × (w < k)
-before_earlier t c w (release_before {a} i lt p q ie if same) = (a, i, lt)
+before_earlier t c w (release_before {a} i lt p q same) = (a, i, lt)
 
 schedulable_earlier : (t : List Event) (c : Positions) (w : ℕ) → SchedulableWants t c w → (k : ℕ) × In k c × (w < k)
 schedulable_earlier t c w (as_before h) = before_earlier t c w h
@@ -24,10 +24,10 @@ schedulable_earlier t c w (of_read {k} i lw) = (k, i, lw.before)
 -- a greater cut wants no less
 sync_more : (t : List Event) (c d : Positions) (w : ℕ) → Inside c d → SyncWants t c w → SyncWants t d w
 sync_more t c d w sub (last_write {k} i lw) = last_write (sub k i) lw
-sync_more t c d w sub (earlier_release {a} {b} i j lt p q ie if same rel) = earlier_release (sub a i) (sub b j) lt p q ie if same rel
+sync_more t c d w sub (earlier_release {a} {b} i j lt p q same rel) = earlier_release (sub a i) (sub b j) lt p q same rel
 
 before_more : (t : List Event) (c d : Positions) (w : ℕ) → Inside c d → HappensBeforeWants t c w → HappensBeforeWants t d w
-before_more t c d w sub (release_before {a} i lt p q ie if same) = release_before (sub a i) lt p q ie if same
+before_more t c d w sub (release_before {a} i lt p q same) = release_before (sub a i) lt p q same
 
 schedulable_more : (t : List Event) (c d : Positions) (w : ℕ) → Inside c d → SchedulableWants t c w → SchedulableWants t d w
 schedulable_more t c d w sub (as_before h) = as_before (before_more t c d w sub h)
@@ -37,24 +37,24 @@ module _ (t u : List Event) (c : Positions) (inside : (k : ℕ) → In k c → k
   -- a cut wants in a trace just what it wants in a longer one
   sync_shorter : (w : ℕ) → Admits (t ++ u) → SyncWants (t ++ u) c w → SyncWants t c w
   sync_shorter w ok (last_write {k} i lw) = last_write i (last_write_shorter t u k w (inside k i) lw)
-  sync_shorter w ok (earlier_release {a} {b} {e} {f} i j lt p q ie if same rel) =
-      let r = release_before_next (t ++ u) a b e f ok lt p q ie if same w rel in
+  sync_shorter w ok (earlier_release {a} {b} {e} {f} i j lt p q same rel) =
+      let r = release_before_next (t ++ u) a b e f ok lt p q same w rel in
       let n = inside b j in
-      earlier_release i j lt (at_shorter t u a e (inside a i) p) (at_shorter t u b f (inside b j) q) ie if same
+      earlier_release i j lt (outer_shorter t u a e (inside a i) p) (outer_shorter t u b f (inside b j) q) same
       (release_shorter t u a w (omega arith) rel)
 
   sync_longer : (w : ℕ) → SyncWants t c w → SyncWants (t ++ u) c w
   sync_longer w (last_write {k} i lw) = last_write i (last_write_longer t u k w lw)
-  sync_longer w (earlier_release {a} {b} {e} {f} i j lt p q ie if same rel) =
-      earlier_release i j lt (at_longer t u a e p) (at_longer t u b f q) ie if same (release_longer t u a w rel)
+  sync_longer w (earlier_release {a} {b} {e} {f} i j lt p q same rel) =
+      earlier_release i j lt (outer_longer t u a e p) (outer_longer t u b f q) same (release_longer t u a w rel)
 
   before_shorter : (w : ℕ) → HappensBeforeWants (t ++ u) c w → HappensBeforeWants t c w
-  before_shorter w (release_before {a} {e} {f} i lt p q ie if same) =
+  before_shorter w (release_before {a} {e} {f} i lt p q same) =
       let n = inside a i in
-      release_before i lt (at_shorter t u a e n p) (at_shorter t u w f (omega arith) q) ie if same
+      release_before i lt (outer_shorter t u a e n p) (frees_shorter t u w f (omega arith) q) same
 
   before_longer : (w : ℕ) → HappensBeforeWants t c w → HappensBeforeWants (t ++ u) c w
-  before_longer w (release_before {a} {e} {f} i lt p q ie if same) = release_before i lt (at_longer t u a e p) (at_longer t u w f q) ie if same
+  before_longer w (release_before {a} {e} {f} i lt p q same) = release_before i lt (outer_longer t u a e p) (frees_longer t u w f q) same
 
   schedulable_shorter : (w : ℕ) → SchedulableWants (t ++ u) c w → SchedulableWants t c w
   schedulable_shorter w (as_before h) = as_before (before_shorter w h)

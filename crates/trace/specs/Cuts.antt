@@ -2,8 +2,7 @@
 use Rattle.std.specs.Prelude.{◌≡◌, ℕ, zero, suc, ◌<◌, Bool, true, false, List, [], ◌∷◌, ◌++◌, length}
 use mathlib.Core.List.{Memᴰ}
 use Rattle.trace.specs.declared.event.Event.{Event}
-use Rattle.trace.specs.declared.kind.Kind.TheVariants.{Acquire, Release}
-use Rattle.trace.specs.Traces.{At, Admits, EarlierInThread, Previous, LastWrite, ReleaseOf}
+use Rattle.trace.specs.Traces.{Admits, Outer, Frees, EarlierInThread, Previous, LastWrite, ReleaseOf}
 
 -- a set of positions
 abbrev pub Positions : Type 0
@@ -56,16 +55,15 @@ pub data Reached (wants : Wants) (t : List Event) (seeds : List ℕ) : ℕ → T
 abbrev pub AllReached : Wants → List Event → List ℕ → Positions → Type 0
 AllReached wants t ss c = (k : ℕ) → In k c → Reached wants t ss k
 
--- the sync rule: a read wants its last write, and of two acquires of one lock the first wants its release
+-- the sync rule: a read wants its last write, and of two outer acquires of one lock the first wants its release
 pub data SyncWants (t : List Event) (c : Positions) (w : ℕ) : Type 0 where
   last_write : {k : ℕ} → In k c → LastWrite t k w → SyncWants t c w
-  earlier_release : {a b : ℕ} {e f : Event} → In a c → In b c → a < b → At t a e → At t b f → e.kind ≡ Acquire → f.kind ≡ Acquire
-      → e.subject ≡ f.subject → ReleaseOf t a w → SyncWants t c w
+  earlier_release : {a b : ℕ} {e f : Event} → In a c → In b c → a < b → Outer t a e → Outer t b f → e.subject ≡ f.subject
+      → ReleaseOf t a w → SyncWants t c w
 
--- the rule of happens-before: an acquire wants each earlier release of its lock
+-- the rule of happens-before: an outer acquire wants each earlier release that freed its lock
 pub data HappensBeforeWants (t : List Event) (c : Positions) (w : ℕ) : Type 0 where
-  release_before : {a : ℕ} {e f : Event} → In a c → w < a → At t a e → At t w f → e.kind ≡ Acquire → f.kind ≡ Release → e.subject ≡ f.subject
-      → HappensBeforeWants t c w
+  release_before : {a : ℕ} {e f : Event} → In a c → w < a → Outer t a e → Frees t w f → e.subject ≡ f.subject → HappensBeforeWants t c w
 
 -- the rule of schedulable happens-before: the same, and a read wants its last write
 pub data SchedulableWants (t : List Event) (c : Positions) (w : ℕ) : Type 0 where

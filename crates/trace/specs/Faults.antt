@@ -3,7 +3,7 @@ use Rattle.std.specs.Prelude.{ℕ, Some, None, Ok, Err, Option, Result}
 use Rattle.trace.specs.declared.record.RecordFault.{RecordFault}
 use Rattle.trace.specs.declared.record.RecordFault.TheVariants.{Length, Kind, Thread, Subject}
 use Rattle.trace.specs.declared.locks.TraceFault.{TraceFault}
-use Rattle.trace.specs.declared.locks.TraceFault.TheVariants.{AlreadyHeld, NotHolder}
+use Rattle.trace.specs.declared.locks.TraceFault.TheVariants.{AlreadyHeld, NotHolder, TooDeep}
 
 -- the number of a refusal by the codec
 abbrev pub record_number : RecordFault → ℕ
@@ -16,6 +16,7 @@ record_number Subject = 4
 abbrev pub trace_number : TraceFault → ℕ
 trace_number AlreadyHeld = 5
 trace_number NotHolder = 6
+trace_number TooDeep = 13
 
 -- an answer, with a refusal told in other terms, as by its number
 abbrev pub told : {A F G : Type 0} → (F → G) → Result A F → Result A G

@@ -9,6 +9,7 @@ pub mod Reorderings
 pub mod Cuts
 pub mod Lookups
 pub mod Orders
+pub mod Depths
 pub mod SyncTheorems
 pub mod ClosureTheorems
 pub mod OrderTheorems

@@ -11,6 +11,10 @@ threads = 16
 abbrev pub locks : ℕ
 locks = 200
 
+-- a lock is held this deep at most
+abbrev pub deepest : ℕ
+deepest = 255
+
 -- whether an event of a kind touches a variable; else it touches a lock
 abbrev pub accesses : Kind → Bool
 accesses Read = true

@@ -4,15 +4,19 @@ use Rattle.trace.specs.declared.event.Event.{Event}
 use Rattle.trace.specs.declared.locks.TraceFault.{TraceFault}
 use Rattle.trace.specs.declared.locks.LockTable.{LockTable}
 use Rattle.trace.specs.Faults.{trace_number, refusal_in}
-use Rattle.trace.specs.Traces.{Holders, after_event, holders_after, trace_refusal}
+use Rattle.trace.specs.Traces.{Standing, after_event, standing_after, trace_refusal}
 
--- the holders that the table has
-abbrev pub holders : LockTable → Holders
-holders table l = slice_index_or table.holders l None
+-- what the table keeps
+abbrev pub standing : LockTable → Standing
+standing table = record { holders = λ l. slice_index_or table.holders l None }
+
+-- the same holders of each lock
+abbrev pub SameStanding : Standing → Standing → Type 0
+SameStanding a b = (l : ℕ) → a.holders l ≡ b.holders l
 
 -- the table has the holders at the end of the trace t
 abbrev pub Tells : LockTable → List Event → Type 0
-Tells table t = (l : ℕ) → holders table l ≡ holders_after t l
+Tells table t = SameStanding (standing table) (standing_after t)
 
 -- a trace with the event e more, unless the answer refuses it
 abbrev pub with_taken : {A F : Type 0} → List Event → Event → Result A F → List Event
@@ -22,8 +26,8 @@ with_taken t e r = cond (is_ok r) (t ++ (e ∷ [])) t
 -- has those after the event; a refusal leaves the table as it was. So of any trace that the table tells of, it refuses just where the trace check
 -- does, and the table then tells of the trace with the event
 pub record Turned (table : LockTable) (e : Event) (r : Result (Unit {0}) TraceFault) (next : LockTable) : Type 0 where
-  pub by_holders : refusal_in trace_number r ≡ trace_refusal (holders table) e
-  pub holders_then : (l : ℕ) → holders next l ≡ cond (is_ok r) (after_event (holders table) e l) (holders table l)
-  pub answer : (t : List Event) → Tells table t → refusal_in trace_number r ≡ trace_refusal (holders_after t) e
+  pub by_standing : refusal_in trace_number r ≡ trace_refusal (standing table) e
+  pub standing_then : SameStanding (standing next) (cond (is_ok r) (after_event (standing table) e) (standing table))
+  pub answer : (t : List Event) → Tells table t → refusal_in trace_number r ≡ trace_refusal (standing_after t) e
   pub tells : (t : List Event) → Tells table t → Tells next (with_taken t e r)
   pub same : is_ok r ≡ false → next ≡ table

@@ -1,12 +1,12 @@
 -- The previous event, the last write and the release of an acquire, as functions that compute, and what they should find; and likewise the
 -- previous events of some events, and the listing of a set.
-use Rattle.std.specs.Prelude.{◌≡◌, ℕ, zero, suc, Bool, true, false, cond, ◌<◌, ◌&&◌, ◌↔◌, List, [], ◌∷◌, length, Some, None, Option, ◌==◌}
+use Rattle.std.specs.Prelude.{◌≡◌, ℕ, zero, suc, Bool, true, false, cond, ◌-◌, ◌<◌, ◌&&◌, ◌↔◌, List, [], ◌∷◌, length, Some, None, Option, ◌==◌}
 use mathlib.Core.List.{Memᴰ}
 use Rattle.std.specs.List.{slice_get}
 use Rattle.trace.specs.declared.event.Event.{Event}
 use Rattle.trace.specs.declared.kind.Kind.{Kind}
 use Rattle.trace.specs.declared.kind.Kind.TheVariants.{Read, Write, Acquire, Release}
-use Rattle.trace.specs.Traces.{At, Previous, LastWrite, ReleaseOf}
+use Rattle.trace.specs.Traces.{depth_with, Outer, Previous, LastWrite, ReleaseOf}
 use Rattle.trace.specs.Reorderings.{Ascending}
 use Rattle.trace.specs.Cuts.{Positions, In, SeedsOf, listed}
 
@@ -19,11 +19,6 @@ fits_here fits (Some e) = fits e
 abbrev pub latest : (Event → Bool) → List Event → ℕ → Option ℕ
 latest fits t zero = None
 latest fits t (suc k) = cond (fits_here fits (slice_get t k)) (Some k) (latest fits t k)
-
--- the earliest of the n positions from k on whose event fits
-abbrev pub earliest : (Event → Bool) → List Event → ℕ → ℕ → Option ℕ
-earliest fits t k zero = None
-earliest fits t k (suc n) = cond (fits_here fits (slice_get t k)) (Some k) (earliest fits t (suc k) n)
 
 -- whether a kind is Read
 abbrev pub reading : Kind → Bool
@@ -39,13 +34,6 @@ writing Write = true
 writing Acquire = false
 writing Release = false
 
--- whether a kind is Release
-abbrev pub releasing : Kind → Bool
-releasing Read = false
-releasing Write = false
-releasing Acquire = false
-releasing Release = true
-
 -- an event of the thread p
 abbrev pub of_thread : ℕ → Event → Bool
 of_thread p e = e.thread == p
@@ -53,10 +41,6 @@ of_thread p e = e.thread == p
 -- a write to the variable x
 abbrev pub writes : ℕ → Event → Bool
 writes x e = writing e.kind && e.subject == x
-
--- a release of the lock l by the thread p
-abbrev pub releases : ℕ → ℕ → Event → Bool
-releases l p e = releasing e.kind && (e.subject == l && e.thread == p)
 
 -- a lookup that starts from an event, if there is one
 abbrev pub from_event : (Event → Option ℕ) → Option Event → Option ℕ
@@ -81,9 +65,21 @@ previous_events t (e ∷ es) = after_some (previous t e) (previous_events t es)
 abbrev pub last_write : List Event → ℕ → Option ℕ
 last_write t k = from_event (λ e. cond (reading e.kind) (latest (writes e.subject) t k) None) (slice_get t k)
 
--- where the thread of an acquire a next releases the lock of a; what is found for another event means nothing
+-- how deep a thread is in a lock after an event, if there is one
+abbrev pub depth_past : ℕ → ℕ → ℕ → Option Event → ℕ
+depth_past thread lock n None = n
+depth_past thread lock n (Some e) = depth_with thread lock n e
+
+-- the earliest of the n positions from k on after which the thread is out of the lock, where it is so deep in it before k
+abbrev pub freeing : ℕ → ℕ → List Event → ℕ → ℕ → ℕ → Option ℕ
+freeing thread lock t depth k zero = None
+freeing thread lock t depth k (suc n) =
+    let next = depth_past thread lock depth (slice_get t k) in
+    cond (next == 0) (Some k) (freeing thread lock t next (suc k) n)
+
+-- where the thread of an outer acquire a next frees the lock of a; what is found for another event means nothing
 abbrev pub release_of : List Event → ℕ → Option ℕ
-release_of t a = from_event (λ e. earliest (releases e.subject e.thread) t (suc a) (length t)) (slice_get t a)
+release_of t a = from_event (λ e. freeing e.thread e.subject t 1 (suc a) (length t - suc a)) (slice_get t a)
 
 -- a lookup finds the position that stands in a relation, and finds none just if there is none
 abbrev pub Finds : Option ℕ → (ℕ → Type 0) → Type 0
@@ -97,9 +93,9 @@ PreviousFound = (t : List Event) (k : ℕ) → Finds (previous t k) (Previous t 
 abbrev pub LastWriteFound : Type 0
 LastWriteFound = (t : List Event) (k : ℕ) → Finds (last_write t k) (LastWrite t k)
 
--- the lookup of releases is right at each acquire
+-- the lookup of releases is right at each outer acquire
 abbrev pub ReleaseFound : Type 0
-ReleaseFound = (t : List Event) (a : ℕ) (e : Event) → At t a e → e.kind ≡ Acquire → Finds (release_of t a) (ReleaseOf t a)
+ReleaseFound = (t : List Event) (a : ℕ) (e : Event) → Outer t a e → Finds (release_of t a) (ReleaseOf t a)
 
 -- the list that is computed of the previous events of some events has just these
 abbrev pub SeedsFound : Type 0

@@ -1,21 +1,18 @@
 -- Happens-before and schedulable happens-before, as relations on the positions of a trace.
 use Rattle.std.specs.Prelude.{◌≡◌, ℕ, ◌<◌, List}
 use Rattle.trace.specs.declared.event.Event.{Event}
-use Rattle.trace.specs.declared.kind.Kind.TheVariants.{Acquire, Release}
-use Rattle.trace.specs.Traces.{At, EarlierInThread, LastWrite}
+use Rattle.trace.specs.Traces.{At, Outer, Frees, EarlierInThread, LastWrite}
 
--- w is a release, and a a later acquire of its lock
+-- w is a release that frees its lock, and a a later outer acquire of it
 pub record ReleaseBefore (t : List Event) (w a : ℕ) : Type 0 where
   pub before : w < a
   pub acquire : Event
   pub release : Event
-  pub acquire_is : At t a acquire
-  pub release_is : At t w release
-  pub is_acquire : acquire.kind ≡ Acquire
-  pub is_release : release.kind ≡ Release
+  pub acquires : Outer t a acquire
+  pub frees : Frees t w release
   pub same_lock : acquire.subject ≡ release.subject
 
--- the least reflexive and transitive relation with thread order, and with each release before the later acquires of its lock
+-- the least reflexive and transitive relation with thread order, and with each release that frees a lock before the later outer acquires of it
 pub data HappensBefore (t : List Event) : ℕ → ℕ → Type 0 where
   same : {k : ℕ} {e : Event} → At t k e → HappensBefore t k k
   in_thread : {d k : ℕ} → EarlierInThread t d k → HappensBefore t d k

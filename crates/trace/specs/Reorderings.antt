@@ -3,8 +3,8 @@ use Rattle.std.specs.Prelude.{◌≡◌, ℕ, ◌<◌, List, [], ◌∷◌, ◌+
 use mathlib.Core.List.{Memᴰ}
 use Rattle.std.specs.List.{slice_get}
 use Rattle.trace.specs.declared.event.Event.{Event}
-use Rattle.trace.specs.declared.kind.Kind.TheVariants.{Read, Write, Acquire}
-use Rattle.trace.specs.Traces.{At, Admits, EarlierInThread, LastWrite}
+use Rattle.trace.specs.declared.kind.Kind.TheVariants.{Read, Write}
+use Rattle.trace.specs.Traces.{At, Admits, Outer, EarlierInThread, LastWrite}
 
 -- the list es, with an event before it if there is one
 abbrev take_in : Option Event → List Event → List Event
@@ -38,14 +38,14 @@ pub record Correct (t : List Event) (σ : List ℕ) : Type 0 where
   pub in_trace : (k : ℕ) → Memᴰ k σ → (e : Event) × At t k e
   pub once : (xs ys : List ℕ) (k : ℕ) → σ ≡ xs ++ (k ∷ ys) → Memᴰ k xs → ⊥
   pub thread_prefix : (xs ys : List ℕ) (d k : ℕ) → σ ≡ xs ++ (k ∷ ys) → EarlierInThread t d k → Memᴰ d xs
-  pub locks : Admits (picked t σ)
+  pub admitted : Admits (picked t σ)
   pub reads : (xs ys : List ℕ) (k : ℕ) (e : Event) → σ ≡ xs ++ (k ∷ ys) → At t k e → e.kind ≡ Read → (w : ℕ)
       → (LatestWrite t xs e.subject w → LastWrite t k w) × (LastWrite t k w → LatestWrite t xs e.subject w)
 
--- each lock is acquired in the order in which the trace acquires it
+-- the outer acquires of each lock stand in the order in which they stand in the trace
 pub record SyncPreserving (t : List Event) (σ : List ℕ) : Type 0 where
-  pub in_order : (xs ys : List ℕ) (a b : ℕ) (e f : Event) → σ ≡ xs ++ (b ∷ ys) → Memᴰ a xs → At t a e → At t b f → e.kind ≡ Acquire
-      → f.kind ≡ Acquire → e.subject ≡ f.subject → a < b
+  pub in_order : (xs ys : List ℕ) (a b : ℕ) (e f : Event) → σ ≡ xs ++ (b ∷ ys) → Memᴰ a xs → Outer t a e → Outer t b f
+      → e.subject ≡ f.subject → a < b
 
 -- k is enabled after σ: σ lacks it, and has what its thread does before it. A position past the trace is enabled after every list of positions of
 -- the trace, so the calls of a session ask about positions of the trace alone

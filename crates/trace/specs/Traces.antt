@@ -1,72 +1,120 @@
 -- Traces, which of them the trace check admits, and how their events relate. A trace is a list of events; positions in it count from 0.
-use Rattle.std.specs.Prelude.{◌≡◌, ℕ, ◌<◌, cond, List, [], ◌∷◌, Some, None, Option, ◌==◌, ◌≢◌}
+use Rattle.std.specs.Prelude.{◌≡◌, ℕ, suc, pred, ◌+◌, ◌<◌, ◌&&◌, cond, List, [], ◌∷◌, take, fold, Some, None, Option, ◌==◌, ◌≢◌, nat_lt}
 use Rattle.std.specs.List.{slice_get}
 use Rattle.trace.specs.declared.event.Event.{Event}
+use Rattle.trace.specs.declared.hold.Hold.{Hold}
 use Rattle.trace.specs.declared.kind.Kind.{Kind}
 use Rattle.trace.specs.declared.kind.Kind.TheVariants.{Read, Write, Acquire, Release}
+use Rattle.trace.specs.Limits.{deepest}
 
 -- the event at position k of t is e
 abbrev pub At : List Event → ℕ → Event → Type 0
 At t k e = slice_get t k ≡ Some e
 
--- the thread that holds each lock, if one does
+-- the thread that holds each lock, and how deep, if one does: once deep where it acquired the lock, and once more for each acquire that followed
+-- while it held it
 abbrev pub Holders : Type 0
-Holders = ℕ → Option ℕ
+Holders = ℕ → Option Hold
+
+-- what the trace check keeps: who holds each lock
+pub record Standing : Type 0 where
+  pub holders : Holders
 
 -- no thread holds a lock
-abbrev pub all_free : Holders
-all_free l = None
+abbrev pub at_start : Standing
+at_start = record { holders = λ l. None }
 
--- the holders h, with the lock l held by w
-abbrev pub give : Holders → ℕ → Option ℕ → Holders
-give h l w m = cond (m == l) w (h m)
+-- the holders h, with the lock l held so
+abbrev pub give : Holders → ℕ → Option Hold → Holders
+give h l hold m = cond (m == l) hold (h m)
 
--- the holders after an event of a kind, by a thread, on a subject: who acquires a lock holds it, and who releases it leaves it free
+-- the hold of a lock that a thread has acquired once more
+abbrev pub entered : ℕ → Option Hold → Option Hold
+entered thread None = Some (record { thread = thread; depth = 1 })
+entered thread (Some h) = Some (record { thread = thread; depth = h.depth + 1 })
+
+-- and of one that its holder has released once: the release of a lock that is held once frees it
+abbrev pub left : Option Hold → Option Hold
+left None = None
+left (Some h) = cond (nat_lt 1 h.depth) (Some (record { thread = h.thread; depth = pred h.depth })) None
+
+-- the holders after an event of a kind, by a thread, on a subject
 abbrev pub turn : Kind → ℕ → ℕ → Holders → Holders
 turn Read thread subject h = h
 turn Write thread subject h = h
-turn Acquire thread subject h = give h subject (Some thread)
-turn Release thread subject h = give h subject None
+turn Acquire thread subject h = give h subject (entered thread (h subject))
+turn Release thread subject h = give h subject (left (h subject))
 
--- the holders after one event more
-abbrev pub after_event : Holders → Event → Holders
-after_event h e = turn e.kind e.thread e.subject h
+-- what the trace check keeps after one event more
+abbrev pub after_event : Standing → Event → Standing
+after_event s e = record { holders = turn e.kind e.thread e.subject s.holders }
 
--- the holders after a list of events
-abbrev pub after : Holders → List Event → Holders
-after h [] = h
-after h (e ∷ es) = after (after_event h e) es
+-- and after a list of events
+abbrev pub after : Standing → List Event → Standing
+after s [] = s
+after s (e ∷ es) = after (after_event s e) es
 
--- the holders at the end of a trace
-abbrev pub holders_after : List Event → Holders
-holders_after t = after all_free t
+-- and at the end of a trace
+abbrev pub standing_after : List Event → Standing
+standing_after t = after at_start t
 
--- why the trace check turns away an event of a kind, by a thread, on a lock with a given holder: 5 for an acquire if there is a holder,
--- 6 for a release if the holder is another thread or none
-abbrev pub refusal_by : Kind → ℕ → Option ℕ → Option ℕ
-refusal_by Read thread holder = None
-refusal_by Write thread holder = None
-refusal_by Acquire thread None = None
-refusal_by Acquire thread (Some other) = Some 5
-refusal_by Release thread None = Some 6
-refusal_by Release thread (Some other) = cond (other == thread) None (Some 6)
+-- why the trace check turns away an event of a kind, by a thread, on a lock that is held so: 5 for an acquire if another thread holds it, 13 for
+-- one that would make the hold deeper than can be, 6 for a release if the holder is another thread or none
+abbrev pub lock_refusal : Kind → ℕ → Option Hold → Option ℕ
+lock_refusal Read thread hold = None
+lock_refusal Write thread hold = None
+lock_refusal Acquire thread None = None
+lock_refusal Acquire thread (Some h) = cond (h.thread == thread) (cond (nat_lt h.depth deepest) None (Some 13)) (Some 5)
+lock_refusal Release thread None = Some 6
+lock_refusal Release thread (Some h) = cond (h.thread == thread) None (Some 6)
 
 -- why the trace check turns the event e away, if it does
-abbrev pub trace_refusal : Holders → Event → Option ℕ
-trace_refusal h e = refusal_by e.kind e.thread (h e.subject)
+abbrev pub trace_refusal : Standing → Event → Option ℕ
+trace_refusal s e = lock_refusal e.kind e.thread (s.holders e.subject)
 
 -- the trace check lets the event e come next
-abbrev pub Allowed : Holders → Event → Type 0
-Allowed h e = trace_refusal h e ≡ None
+abbrev pub Allowed : Standing → Event → Type 0
+Allowed s e = trace_refusal s e ≡ None
 
--- the trace check lets each event of a list come, from the holders h on
-abbrev pub AdmitsFrom : Holders → List Event → Type 0
-AdmitsFrom h [] = Unit {0}
-AdmitsFrom h (e ∷ es) = Allowed h e × AdmitsFrom (after_event h e) es
+-- the trace check lets each event of a list come, from s on
+abbrev pub AdmitsFrom : Standing → List Event → Type 0
+AdmitsFrom s [] = Unit {0}
+AdmitsFrom s (e ∷ es) = Allowed s e × AdmitsFrom (after_event s e) es
 
 -- the trace check admits t
 abbrev pub Admits : List Event → Type 0
-Admits t = AdmitsFrom all_free t
+Admits t = AdmitsFrom at_start t
+
+-- how deep a thread is in a lock after an event of its own on that lock
+abbrev pub deeper : Kind → ℕ → ℕ
+deeper Read n = n
+deeper Write n = n
+deeper Acquire n = suc n
+deeper Release n = pred n
+
+-- how deep a thread is in a lock after one event more
+abbrev pub depth_with : ℕ → ℕ → ℕ → Event → ℕ
+depth_with thread lock n e = cond (e.thread == thread && e.subject == lock) (deeper e.kind n) n
+
+-- how deep a thread is in a lock after some events: how often it acquired the lock and did not release it again
+abbrev pub depth : ℕ → ℕ → List Event → ℕ
+depth thread lock es = fold (depth_with thread lock) 0 es
+
+-- how deep the thread of the event e is in the lock of e before position k
+abbrev pub depth_at : List Event → ℕ → Event → ℕ
+depth_at t k e = depth e.thread e.subject (take k t)
+
+-- k is an outer acquire: its thread is not in the lock before it. The other acquires are inner
+pub record Outer (t : List Event) (k : ℕ) (e : Event) : Type 0 where
+  pub is : At t k e
+  pub is_acquire : e.kind ≡ Acquire
+  pub outside : depth_at t k e ≡ 0
+
+-- k is a release that frees its lock: its thread is in the lock once before it. The other releases are inner
+pub record Frees (t : List Event) (k : ℕ) (e : Event) : Type 0 where
+  pub is : At t k e
+  pub is_release : e.kind ≡ Release
+  pub last : depth_at t k e ≡ 1
 
 -- d is an earlier event of the thread of k
 pub record EarlierInThread (t : List Event) (d k : ℕ) : Type 0 where
@@ -94,16 +142,14 @@ pub record LastWrite (t : List Event) (k w : ℕ) : Type 0 where
   pub same_variable : write.subject ≡ read.subject
   pub none_between : (m : ℕ) (e : Event) → w < m → m < k → At t m e → e.kind ≡ Write → e.subject ≢ read.subject
 
--- a is an acquire, and r its release: the thread of a lets go of the lock there, and nowhere between
+-- a is an acquire, and r its release: the thread of a frees the lock there, and nowhere between
 pub record ReleaseOf (t : List Event) (a r : ℕ) : Type 0 where
   pub after : a < r
   pub acquire : Event
   pub release : Event
   pub acquire_is : At t a acquire
-  pub release_is : At t r release
   pub is_acquire : acquire.kind ≡ Acquire
-  pub is_release : release.kind ≡ Release
+  pub frees : Frees t r release
   pub same_lock : release.subject ≡ acquire.subject
   pub same_thread : release.thread ≡ acquire.thread
-  pub none_between : (m : ℕ) (e : Event) → a < m → m < r → At t m e → e.kind ≡ Release → e.subject ≡ acquire.subject → e.thread ≡ acquire.thread
-      → ⊥
+  pub none_between : (m : ℕ) (e : Event) → a < m → m < r → Frees t m e → e.subject ≡ acquire.subject → e.thread ≡ acquire.thread → ⊥

@@ -3,6 +3,7 @@
 
 pub mod event;
 pub mod fault;
+pub mod hold;
 pub mod kind;
 pub mod limits;
 pub mod locks;

@@ -1,7 +1,8 @@
-//! Who holds each lock, and the trace check: only a free lock is acquired, and only its holder releases it.
+//! Who holds each lock, and the trace check: a lock that another thread holds is not acquired, and only its holder releases it.
 ghost use Rattle.std.specs.Prelude.{◌≡◌, length};
 ghost use Rattle.trace.specs.declared.limits.TheConstants.{LOCKS};
 
+use crate::hold::Hold;
 use crate::limits::LOCK_COUNT;
 
 mod methods;
@@ -9,16 +10,18 @@ mod methods;
 /// Why an event cannot come next.
 #[derive(Clone, Copy, PartialEq, Eq, Debug)]
 pub enum TraceFault {
-    /// The lock that it acquires is held, by the same thread or another.
+    /// Another thread holds the lock that it acquires.
     AlreadyHeld,
     /// The lock that it releases is not held by its thread.
     NotHolder,
+    /// Its thread would hold the lock that it acquires deeper than a byte can say.
+    TooDeep,
 }
 
-/// The thread that holds each lock, if one does, by the number of the lock.
+/// Who holds each lock, if a thread does, by the number of the lock.
 #[derive(Clone, Copy)]
 pub struct LockTable {
     // an array, since a board has no heap
-    holders: [Option<u8>; LOCK_COUNT],
+    holders: [Option<Hold>; LOCK_COUNT],
     ghost whole: { length holders ≡ LOCKS },
 }

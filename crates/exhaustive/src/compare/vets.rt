@@ -1,6 +1,6 @@
 //! What Vet says of some lists that the search met, and of the same from back to front.
 use crate::compare::Comparison;
-use crate::steps::Step;
+use crate::steps::{Step, is_reordering};
 use reel::Reel;
 use std::alloc::AllocError;
 
@@ -9,10 +9,12 @@ impl<R: Reel> Comparison<'_, R> {
     fn compare_vet(&mut self, list: &[Step]) -> Result<(), AllocError> {
         let search = self.search;
         let positions: Vec<u16> = list.iter().map(|step| step.position).collect(search.heap)?;
+        let reordering = is_reordering(list);
         for finding in &search.findings {
             let (p, q) = finding.positions();
             let answer = self.session.vet(p, q, positions.as_slice());
-            self.tally.compare(answer == Ok(finding.is_left_by(list)));
+            let left = reordering && finding.is_enabled(list);
+            self.tally.compare(answer == Ok(left));
         }
         Ok(())
     }

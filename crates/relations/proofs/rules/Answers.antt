@@ -1,6 +1,6 @@
 -- The examples of rules.
 use Rattle.relations.proofs.rules.Goals as goal
-use Rattle.relations.proofs.Wanting.{laws_need_cause, sync_of_two, sync_of_read, release_wanted, both_wanted, halves_of_sync, release_missed, missed_outside, acquires_passed}
+use Rattle.relations.proofs.Wanting.{laws_need_cause, sync_of_two, sync_of_read, release_wanted, both_wanted, halves_of_sync, release_missed, missed_outside, search_enough}
 
 pub returns : goal.returns
 returns c = (
@@ -12,5 +12,5 @@ returns c = (
   halves_of_sync,
   release_missed,
   missed_outside,
-  acquires_passed,
+  search_enough,
 )

@@ -1,6 +1,6 @@
 -- The examples of traces.
 use Rattle.relations.proofs.traces.Goals as goal
-use Rattle.relations.proofs.Tracing.{no_second_holder, previous_latest, last_write_of_variable, release_of_thread, table_changes, held_turned_away, taken_with_room}
+use Rattle.relations.proofs.Tracing.{no_second_holder, previous_latest, last_write_of_variable, release_of_thread, release_frees, table_changes, held_turned_away, taken_with_room}
 
 pub returns : goal.returns
 returns c = (
@@ -8,6 +8,7 @@ returns c = (
   previous_latest,
   last_write_of_variable,
   release_of_thread,
+  release_frees,
   table_changes,
   held_turned_away,
   taken_with_room,

@@ -1,10 +1,12 @@
 //! What the table of lock holders does.
-ghost use Rattle.std.specs.Prelude.{[]};
+ghost use Rattle.std.specs.Prelude.{◌≡◌, []};
+ghost use Rattle.trace.specs.Depths.{depth_in};
 ghost use Rattle.trace.specs.Faults.{trace_number};
-ghost use Rattle.trace.specs.Locks.{Tells, Turned};
+ghost use Rattle.trace.specs.Locks.{Tells, Turned, standing};
 
 use crate::event::Event;
 use crate::fault::Fault;
+use crate::hold::Hold;
 use crate::kind::Kind;
 use crate::limits::LOCK_COUNT;
 use crate::locks::{LockTable, TraceFault};
@@ -16,6 +18,7 @@ impl Fault for TraceFault {
         match self {
             TraceFault::AlreadyHeld => 5,
             TraceFault::NotHolder => 6,
+            TraceFault::TooDeep => 13,
         }
     }
 }
@@ -30,6 +33,16 @@ impl LockTable {
         }
     }
 
+    /// How deep the thread is in the lock; 0 where it does not hold it.
+    pub fn depth(&self, thread: u8, lock: u16) -> u8
+        ensures { result ≡ depth_in ((standing self.now).holders lock) thread }
+    {
+        match self.holders.get(usize::from(lock)) {
+            Some(Some(hold)) if hold.thread == thread => hold.depth,
+            _ => 0,
+        }
+    }
+
     /// Lets the event come next, if the trace check admits it.
     pub fn turn(&mut self, event: &Event) -> Result<(), TraceFault>
         ensures { Turned self.old event.now result self.new }
@@ -40,12 +53,16 @@ impl LockTable {
         let lock = usize::from(event.subject);
         match (self.holders[lock], event.kind) {
             (None, Kind::Acquire) => {
-                self.holders[lock] = Some(event.thread);
+                self.holders[lock] = Some(Hold::first(event.thread));
+                Ok(())
+            }
+            (Some(hold), Kind::Acquire) if hold.thread == event.thread => {
+                self.holders[lock] = Some(hold.entered()?);
                 Ok(())
             }
             (Some(_), Kind::Acquire) => Err(TraceFault::AlreadyHeld),
-            (Some(holder), Kind::Release) if holder == event.thread => {
-                self.holders[lock] = None;
+            (Some(hold), Kind::Release) if hold.thread == event.thread => {
+                self.holders[lock] = hold.left();
                 Ok(())
             }
             (_, Kind::Release) => Err(TraceFault::NotHolder),

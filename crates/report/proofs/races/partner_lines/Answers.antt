@@ -1,4 +1,4 @@
-use Rattle.std.proofs.Common.{take, sym, arith}
+use Rattle.std.proofs.Common.{take, sym}
 use Rattle.std.proofs.lemmas.List.{length-take-le}
 use Rattle.std.proofs.lemmas.Option.{slice_get_within}
 use Rattle.report.proofs.Gathered.{not_refused, gathered}
