@@ -63,7 +63,11 @@ static const char *words(uint32_t answer)
     case LENOGNEISS_THREAD:
         return "refused 3: a record's thread is above its limit";
     case LENOGNEISS_SUBJECT:
-        return "refused 4: a record's variable or lock is above its limit";
+        return "refused 4: a record's variable, lock or named thread is above its limit";
+    case LENOGNEISS_ENDED:
+        return "refused 15: a thread has an event after it was joined";
+    case LENOGNEISS_NO_START:
+        return "refused 14: a thread names itself, or spawns one that is not new";
     case LENOGNEISS_LOCK_HELD:
         return "refused 5: a lock is acquired that another thread holds";
     case LENOGNEISS_TOO_DEEP:

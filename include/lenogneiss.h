@@ -30,9 +30,13 @@ enum lenogneiss_answer {
 
     /* 100 and the number of a refusal. The dump is refused: */
     LENOGNEISS_LENGTH = 101,      /* its length is no multiple of 8 */
-    LENOGNEISS_KIND = 102,        /* a record's kind is not 1 to 4 */
+    LENOGNEISS_KIND = 102,        /* a record's kind is not 1 to 6 */
     LENOGNEISS_THREAD = 103,      /* a record's thread is above 15 */
-    LENOGNEISS_SUBJECT = 104,     /* a record's variable is above 1,023, or its lock above 199 */
+    LENOGNEISS_SUBJECT = 104,     /* a record's variable is above 1,023, its lock above 199, or the
+                                     thread that it spawns or joins above 15 */
+    LENOGNEISS_ENDED = 115,       /* an event of a thread that an earlier event joined */
+    LENOGNEISS_NO_START = 114,    /* a spawn or a join of its own thread; or a spawn of a thread
+                                     that has an event, or that an earlier spawn or join named */
     LENOGNEISS_LOCK_HELD = 105,   /* an acquire of a lock that another thread holds */
     LENOGNEISS_TOO_DEEP = 113,    /* an acquire by which its thread would hold the lock more than
                                      255 deep */

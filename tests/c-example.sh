@@ -17,7 +17,7 @@ trap 'rm -rf "$work"' EXIT
 cc -std=c99 -O2 -pedantic -Wall -Wextra -Werror -Iinclude examples/judge.c "$archive" -o "$work/judge"
 
 # Writes the records of some events to a file. An event is its thread, a letter and its subject: r reads a variable, w writes one, a acquires a
-# lock, z releases one. Any other letter becomes the kind 9.
+# lock, z releases one, s spawns a thread, j joins one. Any other letter becomes the kind 9.
 dump() {
     local file=$work/$1 event thread letter subject kind
     shift
@@ -27,7 +27,7 @@ dump() {
         subject=${event##*[a-z]}
         letter=${event#"$thread"}
         letter=${letter%"$subject"}
-        case $letter in r) kind=1 ;; w) kind=2 ;; a) kind=3 ;; z) kind=4 ;; *) kind=9 ;; esac
+        case $letter in r) kind=1 ;; w) kind=2 ;; a) kind=3 ;; z) kind=4 ;; s) kind=5 ;; j) kind=6 ;; *) kind=9 ;; esac
         printf '%b' "$(printf '\\x%02x' "$kind" "$thread" $((subject % 256)) $((subject / 256)) 7 0 0 0)" >>"$file"
     done
 }
@@ -50,7 +50,9 @@ expect() {
 short='refused 1: the length is no multiple of 8'
 kind='refused 2: a record has no known kind'
 thread="refused 3: a record's thread is above its limit"
-subject="refused 4: a record's variable or lock is above its limit"
+subject="refused 4: a record's variable, lock or named thread is above its limit"
+past='refused 15: a thread has an event after it was joined'
+start='refused 14: a thread names itself, or spawns one that is not new'
 held='refused 5: a lock is acquired that another thread holds'
 deep='refused 13: a lock would be held more than 255 deep'
 holder='refused 6: a lock is released by a thread that does not hold it'
@@ -87,6 +89,12 @@ expect examples/damaged.bin 0 1 "$thread"
 # a write behind an inner release, which is in its section still
 expect examples/inner-section.bin 3 5 race
 expect examples/inner-section.bin 3 7 'no race'
+
+# writes of a thread before it spawns another, beside it, and when it has awaited it
+expect examples/spawned-worker.bin 0 2 'no race'
+expect examples/spawned-worker.bin 2 3 race
+expect examples/spawned-worker.bin 2 6 'no race'
+expect examples/spawned-worker.bin 1 2 "$conflict"
 
 # two writes under one lock
 dump locked 0a0 0w0 0z0 1a0 1w0 1z0
@@ -133,6 +141,23 @@ dump lock 0w0 1z200
 expect lock 0 1 "$subject"
 dump taken 0w0 1a200
 expect taken 0 1 "$subject"
+
+dump spawned 0w0 1w0 0s16
+expect spawned 0 1 "$subject"
+dump joined 0w0 1w0 0j16
+expect joined 0 1 "$subject"
+
+# threads that are started or awaited, and those that cannot be
+dump ties 0w0 1w0 0s2 2w1 0j2 1j2 0j15
+expect ties 0 1 race
+dump itself 0w0 1w0 1j1
+expect itself 0 1 "$start"
+dump begun 0w0 1w0 0s1
+expect begun 0 1 "$start"
+dump twice 0w0 1w0 0s2 1s2
+expect twice 0 1 "$start"
+dump ended 0w0 1w0 0j1 1s1
+expect ended 0 1 "$past"
 
 # locks that another thread holds, that the thread holds itself, as deep as can be and deeper, and locks that no thread holds
 dump held 0w0 1w0 0a5 1a5

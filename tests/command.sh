@@ -51,7 +51,7 @@ wrong() {
 }
 
 # Writes the records of some events to a file. An event is its thread, a letter and its subject: r reads a variable, w writes one, a acquires a
-# lock, z releases one. Any other letter becomes the kind 9.
+# lock, z releases one, s spawns a thread, j joins one. Any other letter becomes the kind 9.
 dump() {
     local file=$work/$1 event thread letter subject kind
     shift
@@ -61,7 +61,7 @@ dump() {
         subject=${event##*[a-z]}
         letter=${event#"$thread"}
         letter=${letter%"$subject"}
-        case $letter in r) kind=1 ;; w) kind=2 ;; a) kind=3 ;; z) kind=4 ;; *) kind=9 ;; esac
+        case $letter in r) kind=1 ;; w) kind=2 ;; a) kind=3 ;; z) kind=4 ;; s) kind=5 ;; j) kind=6 ;; *) kind=9 ;; esac
         printf '%b' "$(printf '\\x%02x' "$kind" "$thread" $((subject % 256)) $((subject / 256)) 7 0 0 0)" >>"$file"
     done
 }
@@ -71,6 +71,8 @@ sections=examples/two-sections.bin
 damaged=examples/damaged.bin
 monitors=examples/monitors-60.bin
 inner=examples/inner-section.bin
+walker=examples/walker-40.bin
+spawned=examples/spawned-worker.bin
 none=/dev/null
 
 # what it takes: each help is an answer, and the first fits a screen
@@ -104,6 +106,7 @@ expect $none 1 "$report" '' report --exit-code $snapshot
 expect $none 0 'events 0
 pairs 0' '' report --exit-code
 expect $none 0 "$(cat tests/stored/monitors-report.txt)" '' report $monitors
+expect $none 0 "$(cat tests/stored/walker-report.txt)" '' report $walker
 words='refused 3 record 8: thread 200 is not below 16'
 expect $none 0 'refused 3 record 8' "$words" report $damaged
 expect $none 2 'refused 3 record 8' "$words" report --exit-code $damaged
@@ -124,6 +127,15 @@ expect examples/snapshot-40.bin 0 "$listing" '' list
 expect $none 0 "$listing" '' list examples/snapshot-40.bin
 expect $none 0 'events 0' '' list --exit-code
 expect $none 0 "$(cat tests/stored/monitors-list.txt)" '' list $monitors
+expect $none 0 "$(cat tests/stored/walker-list.txt)" '' list $walker
+expect $none 0 '0 thread 0 writes variable 0 site 10
+1 thread 0 spawns thread 1 site 20
+2 thread 1 writes variable 0 site 30
+3 thread 0 writes variable 0 site 40
+4 thread 1 writes variable 1 site 50
+5 thread 0 joins thread 1 site 60
+6 thread 0 writes variable 0 site 70
+events 7' '' list $spawned
 
 # an inner acquire or release has its depth, to the deepest
 expect $inner 0 '0 thread 0 acquires lock 0 site 10
@@ -159,6 +171,13 @@ thread 0 up to and with event 2
 positions 0 1 2' '' witness 3 5
 expect $inner 0 'no race' '' judge 3 7
 expect $inner 0 'refused 11: events 3 and 7 do not race' '' witness 3 7
+expect $spawned 0 'no race' '' judge 0 2
+expect $spawned 0 race '' judge 2 3
+expect $spawned 0 'witness 2
+thread 0 up to and with event 1
+positions 0 1' '' witness 2 3
+expect $spawned 0 'no race' '' judge 2 6
+expect $spawned 0 'refused 10: events 1 and 2 are not a write and another access of one variable by different threads' '' judge 1 2
 dump locked 0a0 0w0 0z0 1a0 1w0 1z0
 expect "$work/locked" 0 'no race' '' judge 1 4
 expect "$work/locked" 0 'no race' '' judge --exit-code 1 4
@@ -215,12 +234,38 @@ refused 'refused 4 record 1: lock 200 is not below 200' lock
 dump last 0w0 1a199
 expect "$work/last" 0 'events 2
 pairs 0' '' report
+dump started 0w0 1w0 0s16
+refused 'refused 4 record 2: spawned thread 16 is not below 16' started
+dump awaited 0w0 1w0 0j256
+refused 'refused 4 record 2: joined thread 256 is not below 16' awaited
 dump held 0w0 1w0 0a5 1a5
 refused 'refused 5 record 3: acquires lock 5, which another thread holds' held
 dump deep 0w0 1w0 $deepest 0a5
 refused 'refused 13 record 257: acquires lock 5, which thread 0 would hold more than 255 deep' deep
 dump other 0w0 1w0 0a5 1z5
 refused 'refused 6 record 3: releases lock 5, which thread 1 does not hold' other
+own='thread 1 cannot spawn or join itself'
+dump itself 0w0 1w0 1s1
+refused "refused 14 record 2: $own" itself
+dump itself 0w0 1w0 1j1
+refused "refused 14 record 2: $own" itself
+known='which has events, or was spawned or joined before'
+dump begun 0w0 1w0 0s1
+refused "refused 14 record 2: spawns thread 1, $known" begun
+dump twice 0w0 1w0 0s2 1s2
+refused "refused 14 record 3: spawns thread 2, $known" twice
+dump before 0w0 1w0 0j2 1s2
+refused "refused 14 record 3: spawns thread 2, $known" before
+past='thread 1 was joined by an earlier event'
+dump joined 0w0 1w0 0j1 1s1
+refused "refused 15 record 3: $past" joined
+dump joined 0w0 1w0 0a5 0j1 1a5
+refused "refused 15 record 4: $past" joined
+dump tied 0s1 0j1 2j1 0j15 1w0
+refused "refused 15 record 4: $past" tied
+dump tied 0s1 0j1 2j1 0j15
+expect "$work/tied" 0 'events 4
+pairs 0' '' report
 
 # the questions about orders
 expect tests/stored/ask.bin 0 "$(cat tests/stored/ask.txt)" '' ask $(cat tests/stored/ask.args)
@@ -239,6 +284,12 @@ vet yes' '' ask 3 5 0 1 2
 expect $inner 0 'unordered no
 schedulable no
 vet no' '' ask 3 7 0 1 2 5 6
+expect $spawned 0 'unordered yes
+schedulable yes
+vet yes' '' ask 2 3 0 1
+expect $spawned 0 'unordered no
+schedulable no
+vet no' '' ask 2 6 0 1 3 5
 
 # scripts: each reply stands below the words of its call, and the replies are those of the run
 run tests/stored/script.txt script

@@ -86,16 +86,24 @@ def batches(total, size):
         yield range(low, min(low + size, total))
 
 
+# What makes an admitted dump a harder one
+BESIDES = ["", " beside inner acquires", " beside spawns or joins", " beside inner acquires and spawns or joins"]
+
+
+def beside(dump):
+    return BESIDES[fuzz_dumps.has_inner(dump) + 2 * fuzz_dumps.has_spawn(dump)]
+
+
 # The program
 
 
 def kind_of(report, dump):
-    """A word for the tally: the refusal, or whether there are races, and whether locks are taken again."""
+    """A word for the tally: the refusal, or whether there are races, and what else there is."""
     first = report.split(b"\n", 1)[0].decode()
     if first.startswith("refused"):
         return " ".join(first.split()[:2])
     found = "no race" if report.endswith(b"\npairs 0\n") else "races"
-    return found + (" beside inner acquires" if fuzz_dumps.has_inner(dump) else "")
+    return found + beside(dump)
 
 
 def some_pieces(rng, length):
@@ -130,8 +138,8 @@ def fuzz_program(harness):
     show("reports", reports)
     show("fed through", fed)
     print("longest run: %.2f s, %s" % longest, flush=True)
-    wanted = ["refused %d" % n for n in [*range(1, 8), 13]]
-    wanted += [found + inner for found in ("races", "no race") for inner in ("", " beside inner acquires")]
+    wanted = ["refused %d" % n for n in [*range(1, 8), 13, 14, 15]]
+    wanted += [found + more for found in ("races", "no race") for more in BESIDES]
     return missing(reports, wanted, options.dumps)
 
 
@@ -167,8 +175,8 @@ def compare_answers(harness, words, batch, cases):
 
 
 def answer_of(number, dump):
-    """A word for the tally: the answer, and to a verdict whether locks are taken again."""
-    return "answer %d" % number + (" beside inner acquires" if number < 2 and fuzz_dumps.has_inner(dump) else "")
+    """A word for the tally: the answer, and to a verdict what else there is."""
+    return "answer %d" % number + (beside(dump) if number < 2 else "")
 
 
 def fuzz_entry(harness, host):
@@ -185,8 +193,8 @@ def fuzz_entry(harness, host):
     show("positions", ways)
     show("answers", answers)
     print("longest run: %.2f s, %s" % longest, flush=True)
-    wanted = ["answer %d" % n for n in [0, 1, *range(101, 111), 113]]
-    return missing(answers, wanted + ["answer %d beside inner acquires" % n for n in (0, 1)], options.cases)
+    wanted = ["answer %d" % n for n in [*range(101, 111), 113, 114, 115]]
+    return missing(answers, wanted + ["answer %d" % n + more for n in (0, 1) for more in BESIDES], options.cases)
 
 
 # Both under valgrind

@@ -3,8 +3,8 @@
 Nothing here knows what a dump should be answered with."""
 import collections, random, struct
 
-READ, WRITE, ACQUIRE, RELEASE = 1, 2, 3, 4
-LOCKS, DEEPEST = 200, 255
+READ, WRITE, ACQUIRE, RELEASE, SPAWN, JOIN = 1, 2, 3, 4, 5, 6
+THREADS, LOCKS, DEEPEST = 16, 200, 255
 MEGABYTE = 1 << 20
 
 
@@ -24,11 +24,11 @@ def some_site(rng, manner, n):
 
 class Shape:
     """How a made trace goes: who takes part, how often threads take turns, how much is guarded, how often a
-    thread acquires a lock that it holds."""
+    thread acquires a lock that it holds, and how often threads are spawned and joined."""
 
     def __init__(self, rng, sparse=False):
         few = rng.random() < 0.7
-        self.threads = rng.sample(range(16), rng.randint(1, 4) if few else rng.randint(1, 16))
+        self.threads = rng.sample(range(THREADS), rng.randint(1, 4) if few else rng.randint(1, THREADS))
         self.locks = rng.sample(range(LOCKS), rng.randint(1, 3) if few else rng.randint(1, LOCKS))
         many = rng.randint(200, 1024) if sparse else rng.randint(1, 40)
         self.variables = rng.sample(range(1024), rng.randint(1, 4) if few and not sparse else many)
@@ -39,6 +39,8 @@ class Shape:
         self.strict = rng.random() < 0.35  # (nearly) no access without a lock
         self.writing = rng.choice([0.02, 0.1]) if sparse else rng.choice([0.1, 0.3, 0.5, 1.0])
         self.sites = rng.choice(["count", "edge", "any"])
+        self.spawning = rng.choice([0.0, 0.01] if sparse else [0.0, 0.03, 0.1, 0.3])
+        self.joining = self.spawning * rng.choice([0.1, 0.3, 1.0])
         if self.strict:
             self.locking, self.guarded = max(self.locking, 0.3), 1.0
 
@@ -55,14 +57,43 @@ def lock_to_acquire(rng, shape, mine):
     return rng.choice(mine if mine and rng.random() < shape.again else shape.locks)
 
 
+class Crew:
+    """The threads of a made trace: those that may have an event, and those that are still to be spawned. The others
+    were joined."""
+
+    def __init__(self, rng, shape):
+        self.shape, self.running, self.waiting = shape, list(shape.threads), []
+        while shape.spawning and len(self.running) > 1 and rng.random() < 0.8:
+            self.waiting.append(self.running.pop())
+
+    def deed(self, rng, thread, held):
+        """A spawn or a join by the thread, the kind and the subject; or None. It is rare that a thread is joined that
+        holds a lock."""
+        if self.waiting and rng.random() < self.shape.spawning:
+            subject = self.waiting.pop()
+            self.running.append(subject)
+            return SPAWN, subject
+        subject = rng.choice(self.shape.threads)
+        if rng.random() >= self.shape.joining or subject == thread or held[subject] and rng.random() < 0.9:
+            return None
+        for threads in (self.running, self.waiting):
+            if subject in threads:
+                threads.remove(subject)
+        return JOIN, subject
+
+
 def trace(rng, length, shape):
     """The records of an admitted trace: a list of eight bytes each."""
-    holder, held, records = {}, {t: [] for t in shape.threads}, []
-    thread = rng.choice(shape.threads)
+    holder, held, records, crew = {}, {t: [] for t in shape.threads}, [], Crew(rng, shape)
+    thread = rng.choice(crew.running)
     while len(records) < length:
-        if rng.random() < shape.switch:
-            thread = rng.choice(shape.threads)
+        if rng.random() < shape.switch or thread not in crew.running:
+            thread = rng.choice(crew.running)
         site = some_site(rng, shape.sites, len(records))
+        deed = crew.deed(rng, thread, held)
+        if deed:
+            records.append(record(deed[0], thread, deed[1], site))
+            continue
         mine = held[thread]  # a lock stands here once for each time that it is to be released
         bare = shape.strict and not mine and rng.random() > 0.01
         if mine and rng.random() < 0.6 * shape.locking:
@@ -73,7 +104,7 @@ def trace(rng, length, shape):
         elif bare or rng.random() < 0.5 * shape.locking:
             lock = lock_to_acquire(rng, shape, mine)
             if holder.get(lock, thread) != thread or mine.count(lock) == DEEPEST:
-                thread = holder[lock] if rng.random() < 0.5 else rng.choice(shape.threads)
+                thread = holder[lock] if rng.random() < 0.5 else rng.choice(crew.running)
                 continue
             holder[lock] = thread
             mine.append(lock)
@@ -116,10 +147,10 @@ def random_records(rng, _):
     loose, out = rng.choice([0.002, 0.02, 0.2]), []
     for n in range(rng.randint(1, 60)):
         wild = rng.random() < loose
-        kind = rng.choice([0, 1, 2, 3, 4, 5, 6, 128, 255]) if wild else rng.choice([1, 2, 3])
+        kind = rng.choice([0, 1, 2, 3, 4, 5, 6, 7, 128, 255]) if wild else rng.choice([1, 2, 3])
         thread = rng.choice([0, 1, 15, 16, 17, 31, 128, 255]) if wild else rng.choice([0, 7, 15])
         locks = [64, LOCKS - 1, LOCKS, LOCKS + 1, 255 + LOCKS]
-        past = [0, 1, 255, 256, 1023, 1024, 1025, 1023 + LOCKS, 32768, 65535] + locks
+        past = [0, 1, 15, 16, 255, 256, 1023, 1024, 1025, 1023 + LOCKS, 32768, 65535] + locks
         subject = rng.choice(past) if wild else rng.choice([0, 1, 255, 256, 1022, 1023]) if kind < 3 else n
         out.append(record(kind, thread, subject, rng.getrandbits(32)))
     return b"".join(out)
@@ -143,11 +174,11 @@ def one_field(rng, _):
     at = 8 * rng.randrange(len(bytes_) // 8)
     what = rng.randrange(3)
     if what == 0:
-        bytes_[at] = rng.choice([0, 1, 2, 3, 4, 5, 6, 255])
+        bytes_[at] = rng.choice([0, 1, 2, 3, 4, 5, 6, 7, 255])
     elif what == 1:
         bytes_[at + 1] = rng.choice([0, 14, 15, 16, 17, 255])
     else:
-        edges = [0, 64, LOCKS - 1, LOCKS, 255 + LOCKS, 1023, 1024, 1023 + LOCKS, 65535]
+        edges = [0, 15, 16, 64, LOCKS - 1, LOCKS, 255 + LOCKS, 1023, 1024, 1023 + LOCKS, 65535]
         bytes_[at + 2:at + 4] = struct.pack("<H", rng.choice(edges))
     return bytes(bytes_)
 
@@ -191,6 +222,14 @@ def unused(rng, shape):
     return rng.choice([n for n in range(LOCKS) if n not in shape.locks])
 
 
+def strangers(rng, shape, count):
+    """So many threads, which have no part in a shape with spawns and joins: they can have events at any time."""
+    if not shape.spawning:
+        return rng.sample(range(THREADS), count)
+    shape.threads = shape.threads[:THREADS - count]
+    return rng.sample([t for t in range(THREADS) if t not in shape.threads], count)
+
+
 def mixed(rng, records, deeds):
     """The records with the deeds somewhere among them, in their order."""
     records, places = list(records), sorted(rng.randint(0, len(records)) for _ in deeds)
@@ -203,8 +242,8 @@ def bad_lock(rng, _):
     """An event that the trace check refuses, put somewhere into a trace, with one more lock in play."""
     shape = Shape(rng)
     shape.locks = shape.locks[:LOCKS - 1]
+    one, other = strangers(rng, shape, 2)
     records, lock = trace(rng, rng.randint(0, 60), shape), unused(rng, shape)
-    one, other = rng.sample(range(16), 2)
     a, z = (lambda t: record(ACQUIRE, t, lock, 1)), (lambda t: record(RELEASE, t, lock, 2))
     twice = [a(one), a(one)]
     deeds = rng.choice([[a(one), a(other)], [z(one)], [a(one), z(other)], [a(one), z(one), z(one)],
@@ -214,12 +253,47 @@ def bad_lock(rng, _):
     return b"".join(mixed(rng, records, deeds))
 
 
+# What three threads do of which the rest of the trace knows nothing: r reads, a and z acquire and release a lock,
+# s and j spawn and join one of them. Here a thread that was joined has an event, mostly one that is wrong in other
+# ways too
+ENDED = ["0j1 1r", "1r 0j1 1r", "1r 0j1 1z", "0a 0j1 1a", "1a 0j1 1a", "1a*255 0j1 1a", "0a 0s1 0j1 1z", "0j1 1s1",
+         "1r 0j1 1s1", "0j1 1j1", "1r 2j1 1j1", "0r 0j1 1s0", "0j1 1s2", "0s1 2j1 1j0", "0s1 1s2 2j1 1j2",
+         "0s1 1r 1a 0j1 1a", "0j1 0j1 1j0"]
+# Here a thread spawns or joins itself, or spawns one that is known already
+KNOWN = ["0s0", "0r 0s0", "2s0 0s0", "0j0", "0a 0j0", "2s0 0j0", "0s1 0s1", "0s1 2s1", "0s1 1r 2s1", "1r 0s1",
+         "1a 0s1", "1j2 0s1", "0j1 0s1", "0j1 2s1", "1r 0j1 0s1", "0s1 1s0", "0s1 0j1 2s1", "0s1 1j1"]
+# And this is admitted
+ADMITTED = ["0s1", "0s1 0j1", "0s1 0j1 2j1 0j1", "0j1 0j1 0r", "1r 0j1 2j1 2r", "0s1 1s2 2r 1j2 0j1 0r",
+            "0a 0a 0s1 1j2 0z 0j1 0z"]
+
+
+def deeds_of(text, threads, lock):
+    """The records of such a text: of each the thread, the letter, where it names one a thread, and how many times."""
+    records, kinds = [], {"r": READ, "a": ACQUIRE, "z": RELEASE, "s": SPAWN, "j": JOIN}
+    for word in text.split():
+        word, _, times = word.partition("*")
+        subject = threads[int(word[2])] if word[2:] else lock
+        records += [record(kinds[word[1]], threads[int(word[0])], subject, 3)] * int(times or 1)
+    return records
+
+
+def bad_thread(rng, _):
+    """Such a text, put somewhere into a trace, with three more threads and one more lock in play."""
+    shape = Shape(rng)
+    shape.locks, shape.threads = shape.locks[:LOCKS - 1], shape.threads[:THREADS - 3]
+    threads = rng.sample([t for t in range(THREADS) if t not in shape.threads], 3)
+    text = rng.choice(rng.choice([ENDED, KNOWN, ADMITTED]))
+    records, deeds = trace(rng, rng.randint(0, 60), shape), deeds_of(text, threads, unused(rng, shape))
+    return b"".join(mixed(rng, records, deeds))
+
+
 def deep(rng, _):
     """A thread goes into a lock as deep as can be, perhaps out a little and in again, and perhaps deeper; or others
     try the lock then."""
     shape = Shape(rng)
     shape.locks = shape.locks[:LOCKS - 1]
-    records, lock, one, other = trace(rng, rng.randint(0, 60), shape), unused(rng, shape), *rng.sample(range(16), 2)
+    one, other = strangers(rng, shape, 2)
+    records, lock = trace(rng, rng.randint(0, 60), shape), unused(rng, shape)
     a, z = (lambda t: record(ACQUIRE, t, lock, 1)), (lambda t: record(RELEASE, t, lock, 2))
     turns = rng.choice([0, 0, 1, rng.randint(1, DEEPEST)])
     deeds = [a(one)] * DEEPEST + [z(one)] * turns + [a(one)] * turns
@@ -237,7 +311,7 @@ def brim(rng, capacity):
 
 def brim_damaged(rng, capacity):
     bytes_ = bytearray(brim(rng, capacity))
-    bytes_[rng.randrange(len(bytes_)) & ~7] = rng.choice([0, 5, 255])
+    bytes_[rng.randrange(len(bytes_)) & ~7] = rng.choice([0, 5, 6, 7, 255])
     return bytes(bytes_)
 
 
@@ -249,13 +323,16 @@ def over(rng, capacity):
 def over_wrong(rng, capacity):
     """One record too many that is wrong in itself, which is found first; perhaps with more after it."""
     depth, shape = rng.choice([1, 2, DEEPEST, DEEPEST]), Shape(rng, sparse=True)
-    shape.locks = shape.locks[:LOCKS - 1]
-    records, lock = trace(rng, capacity - depth, shape), unused(rng, shape)
+    shape.locks, shape.threads = shape.locks[:LOCKS - 1], [t for t in shape.threads if t not in (3, 4)] or [0]
+    ended = rng.choice([[], [record(JOIN, 3, 4, 0)]])
+    records, lock = trace(rng, capacity - depth - len(ended), shape), unused(rng, shape)
     again = [record(ACQUIRE, 3, lock, 0)]  # wrong in itself only in a hold that is as deep as can be
-    records += again * depth
+    records += again * depth + ended
     last = rng.choice([record(READ, 0, 0, 0)[:rng.randint(1, 7)], record(0, 0, 0, 0), record(READ, 16, 0, 0),
                        record(WRITE, 0, 1024, 0), record(ACQUIRE, 0, LOCKS, 0), record(ACQUIRE, 4, lock, 0),
-                       record(RELEASE, 4, lock, 0), record(RELEASE, 3, lock, 0)] + again * 6)
+                       record(RELEASE, 4, lock, 0), record(RELEASE, 3, lock, 0), record(READ, 4, 0, 0),
+                       record(SPAWN, 3, 3, 0), record(SPAWN, 4, 4, 0), record(SPAWN, 3, 4, 0), record(JOIN, 3, 3, 0),
+                       record(JOIN, 3, 4, 0), record(JOIN, 3, THREADS, 0)] + again * 6)
     tail = rng.randbytes(rng.choice([0, 8, 16, rng.randint(0, 40)])) if len(last) == 8 else b""
     return b"".join(records) + last + tail
 
@@ -263,7 +340,7 @@ def over_wrong(rng, capacity):
 def crowded(rng, capacity):
     """Very many races: few variables, many writes, no locks or few."""
     shape = Shape(rng)
-    shape.threads, shape.writing = list(range(16)), rng.choice([0.3, 1.0])
+    shape.threads, shape.writing = list(range(THREADS)), rng.choice([0.3, 1.0])
     shape.variables, shape.locking = [0, 1023], rng.choice([0.0, 0.05])
     return b"".join(trace(rng, min(capacity, rng.randint(400, 1100)), shape))
 
@@ -286,11 +363,11 @@ def huge(rng, _):
 
 
 # The sorts; how many of ten thousand dumps for the program, and of five thousand for the C entry, are of each
-SORTS = [(no_bytes, 5, 5), (random_bytes, 900, 150), (random_records, 850, 190), (short, 1800, 1500),
+SORTS = [(no_bytes, 5, 5), (random_bytes, 700, 100), (random_records, 750, 110), (short, 1800, 1500),
          (middling, 500, 1000), (long, 45, 300), (one_byte, 1100, 300), (one_bit, 500, 200), (one_field, 1000, 250),
          (cut, 800, 200), (inserted, 500, 100), (removed, 400, 100), (repeated, 400, 100), (swapped, 400, 100),
-         (bad_lock, 558, 150), (deep, 150, 160), (brim, 12, 60), (brim_damaged, 10, 20), (over, 20, 40),
-         (over_wrong, 36, 45), (crowded, 2, 20), (huge, 12, 10)]
+         (bad_lock, 458, 140), (bad_thread, 388, 130), (deep, 150, 160), (brim, 12, 60), (brim_damaged, 10, 20),
+         (over, 20, 40), (over_wrong, 48, 55), (crowded, 2, 20), (huge, 12, 10)]
 FOR_PROGRAM, FOR_ENTRY = 1, 2
 
 
@@ -320,6 +397,11 @@ def has_inner(dump):
             return True
         depths[thread, lock] += (kind == ACQUIRE) - (kind == RELEASE)
     return False
+
+
+def has_spawn(dump):
+    """Whether a record of an admitted dump spawns or joins a thread."""
+    return any(kind in (SPAWN, JOIN) for kind in dump[::8])
 
 
 def some_positions(rng, dump, capacity):

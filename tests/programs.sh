@@ -83,15 +83,40 @@ pairs 0' '' racereport
 expect "$work/deeper" 0 'refused 13 record 255' '' racereport
 expect "$work/held" 0 'refused 5 record 255' '' racereport
 
+# writes of a thread before it spawns another, beside it, and when it has joined it
+printf '\2\0\0\0\7\0\0\0\5\0\1\0\7\0\0\0\2\1\0\0\7\0\0\0\2\0\0\0\7\0\0\0\6\0\1\0\7\0\0\0\2\0\0\0\7\0\0\0' >"$work/spawned"
+expect "$work/spawned" 0 'events 6
+race 2 3 sites 7 7
+pairs 1' '' racereport
+
+# the checks in their order, where later ones would refuse too: no kind, no thread, no thread to be spawned, a thread that spawns itself, one that
+# was spawned before, and one that was joined before, which would also spawn itself or go too deep
+printf '\7\20\377\377\7\0\0\0' >"$work/kind"
+printf '\5\20\377\377\7\0\0\0' >"$work/thread"
+printf '\6\0\1\0\7\0\0\0\5\1\20\0\7\0\0\0' >"$work/subject"
+printf '\5\3\3\0\7\0\0\0' >"$work/itself"
+printf '\5\0\1\0\7\0\0\0\5\2\1\0\7\0\0\0' >"$work/twice"
+printf '\6\0\1\0\7\0\0\0\5\1\1\0\7\0\0\0' >"$work/ended"
+{ cat "$work/deep" && printf '\6\1\0\0\7\0\0\0\3\0\5\0\7\0\0\0'; } >"$work/ended-deep"
+expect "$work/kind" 0 'refused 2 record 0' '' racereport
+expect "$work/thread" 0 'refused 3 record 0' '' racereport
+expect "$work/subject" 0 'refused 4 record 1' '' racereport
+expect "$work/itself" 0 'refused 14 record 0' '' racereport
+expect "$work/twice" 0 'refused 14 record 1' '' racereport
+expect "$work/ended" 0 'refused 15 record 1' '' racereport
+expect "$work/ended-deep" 0 'refused 15 record 256' '' racereport
+
 # as many records as there is room for; a byte more, a record more, and records without end, of which none is read but those that decide
 printf '\2\0\0\0\7\0\0\0%.0s' $(seq 64) >"$work/64"
 for part in $(seq 64); do cat "$work/64"; done >"$work/full"
 { cat "$work/full" && printf '\2'; } >"$work/cut"
 cat "$work/full" "$work/64" >"$work/more"
+cat "$work/full" "$work/itself" >"$work/worse"
 expect "$work/full" 0 'events 4096
 pairs 0' '' racereport
 expect "$work/cut" 0 'refused 1 record 4096' '' racereport
 expect "$work/more" 0 'refused 7 record 4096' '' racereport
+expect "$work/worse" 0 'refused 14 record 4096' '' racereport
 expect <(while cat "$work/full" 2>/dev/null; do :; done) 0 'refused 7 record 4096' '' racereport
 calls=$((calls + 1))
 left=$({ "$folder/racereport/out/racereport" >/dev/null && wc -c; } <"$work/more")

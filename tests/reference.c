@@ -21,7 +21,7 @@
 
 enum { RECORD = 8, THREADS = 16, VARIABLES = 1024, LOCKS = 200, DEEPEST = 255 };
 enum { HOST = 4096, BOARD = 1024, MOST = HOST };
-enum { READ = 1, WRITE = 2, ACQUIRE = 3, RELEASE = 4 };
+enum { READ = 1, WRITE = 2, ACQUIRE = 3, RELEASE = 4, SPAWN = 5, JOIN = 6 };
 enum { NONE = -1 };
 
 struct event {
@@ -29,15 +29,17 @@ struct event {
     uint32_t site;
 };
 
-/* A trace with the three lookups of each event: the position found, or NONE. A release is looked up for outer
- * acquires alone. */
+/* A trace with the lookups of each event: the position found, or NONE. A release is looked up for outer acquires
+ * alone, and an end for joins: the last event of the awaited thread, or its spawn where it has no event. */
 struct trace {
     int count, capacity;
     struct event event[MOST];
-    int previous[MOST], last_write[MOST], release[MOST];
+    int previous[MOST], last_write[MOST], release[MOST], end[MOST];
     bool outer[MOST]; /* it acquires a lock that its thread is not in */
     /* the state at the end of the trace */
-    int latest[THREADS], written[VARIABLES];
+    int latest[THREADS];  /* the last event of the thread, or its spawn where it has no event */
+    bool joined[THREADS]; /* a join named the thread */
+    int written[VARIABLES];
     int depth[THREADS][LOCKS]; /* how many more acquires than releases of the lock the thread has */
     int acquired[LOCKS];       /* the last outer acquire of the lock */
 };
@@ -61,14 +63,32 @@ static void start(int capacity)
     trace.count = 0;
     trace.capacity = capacity;
     for (int i = 0; i < THREADS; i++) trace.latest[i] = NONE;
+    memset(trace.joined, 0, sizeof trace.joined);
     for (int i = 0; i < VARIABLES; i++) trace.written[i] = NONE;
     for (int i = 0; i < LOCKS; i++) trace.acquired[i] = NONE;
     memset(trace.depth, 0, sizeof trace.depth);
 }
 
-/* The checks 5, 13 and 6 on an acquire or a release: 0, or the number of the one that fails. */
+static bool is_access(struct event e) { return e.kind == READ || e.kind == WRITE; }
+
+static bool is_on_lock(struct event e) { return e.kind == ACQUIRE || e.kind == RELEASE; }
+
+/* How many subjects there are for events of the kind. */
+static int subjects(struct event e) { return is_access(e) ? VARIABLES : is_on_lock(e) ? LOCKS : THREADS; }
+
+/* The checks 15 and 14: 0, or the number of the first that fails. */
+static int thread_refusal(struct event e)
+{
+    if (trace.joined[e.thread]) return 15;
+    if (e.kind != SPAWN && e.kind != JOIN) return 0;
+    bool known = trace.latest[e.subject] != NONE || trace.joined[e.subject];
+    return e.subject == e.thread || (e.kind == SPAWN && known) ? 14 : 0;
+}
+
+/* The checks 5, 13 and 6: 0, or the number of the one that fails. */
 static int lock_refusal(struct event e)
 {
+    if (!is_on_lock(e)) return 0;
     int depth = trace.depth[e.thread][e.subject];
     if (e.kind == RELEASE) return depth > 0 ? 0 : 6;
     for (int other = 0; other < THREADS; other++)
@@ -90,18 +110,18 @@ static void turn(int here)
     }
 }
 
-/* Puts one record through the checks 1 to 4, those of locks and 7, and takes its event in: 0, or the number of the
- * first that fails. */
+/* Puts one record through the checks 1 to 4, those of threads, those of locks and 7, and takes its event in: 0, or
+ * the number of the first that fails. */
 static int enter(const uint8_t *bytes, size_t length)
 {
     if (length < RECORD) return 1;
     struct event e = {bytes[0], bytes[1], bytes[2] | bytes[3] << 8,
                       bytes[4] | (uint32_t)bytes[5] << 8 | (uint32_t)bytes[6] << 16 | (uint32_t)bytes[7] << 24};
-    if (e.kind < READ || e.kind > RELEASE) return 2;
+    if (e.kind < READ || e.kind > JOIN) return 2;
     if (e.thread >= THREADS) return 3;
-    bool access = e.kind == READ || e.kind == WRITE;
-    if (e.subject >= (access ? VARIABLES : LOCKS)) return 4;
-    int refusal = access ? 0 : lock_refusal(e);
+    if (e.subject >= subjects(e)) return 4;
+    int refusal = thread_refusal(e);
+    if (refusal == 0) refusal = lock_refusal(e);
     if (refusal != 0) return refusal;
     if (trace.count == trace.capacity) return 7;
 
@@ -110,10 +130,13 @@ static int enter(const uint8_t *bytes, size_t length)
     trace.previous[here] = trace.latest[e.thread];
     trace.last_write[here] = e.kind == READ ? trace.written[e.subject] : NONE;
     trace.release[here] = NONE;
+    trace.end[here] = e.kind == JOIN ? trace.latest[e.subject] : NONE;
     trace.outer[here] = false;
     trace.latest[e.thread] = here;
     if (e.kind == WRITE) trace.written[e.subject] = here;
-    if (!access) turn(here);
+    if (is_on_lock(e)) turn(here);
+    if (e.kind == SPAWN) trace.latest[e.subject] = here;
+    if (e.kind == JOIN) trace.joined[e.subject] = true;
     return 0;
 }
 
@@ -131,7 +154,7 @@ static int enter_records(const uint8_t *dump, size_t length, size_t *index)
 static bool conflict(int p, int q)
 {
     struct event a = trace.event[p], b = trace.event[q];
-    return a.kind <= WRITE && b.kind <= WRITE && a.subject == b.subject && a.thread != b.thread &&
+    return is_access(a) && is_access(b) && a.subject == b.subject && a.thread != b.thread &&
            (a.kind == WRITE || b.kind == WRITE);
 }
 
@@ -142,11 +165,11 @@ static void clear(struct set *set)
 }
 
 /* Takes a position into a closed set, and all that must come with it so that it is closed again: with an
- * event its previous one, with a read its last write, and of two outer acquires of a lock the release of the
- * earlier. */
+ * event its previous one, which is the spawn of its thread for the first of a spawned thread, with a read its last
+ * write, with a join the end of the awaited thread, and of two outer acquires of a lock the release of the earlier. */
 static void take(struct set *set, int seed)
 {
-    static int waiting[1 + 3 * MOST]; /* each position taken puts at most three others here */
+    static int waiting[1 + 4 * MOST]; /* each position taken puts at most four others here */
     int n = 0;
     waiting[n++] = seed;
     while (n > 0) {
@@ -155,6 +178,7 @@ static void take(struct set *set, int seed)
         set->has[at] = true;
         waiting[n++] = trace.previous[at];
         waiting[n++] = trace.last_write[at];
+        waiting[n++] = trace.end[at];
         if (trace.outer[at]) {
             int *latest = &set->latest_acquire[trace.event[at].subject];
             int earlier = at < *latest ? at : *latest;
@@ -181,7 +205,7 @@ static void partners(int q, bool *racing)
     static struct set base, closure;
     bool done[THREADS] = {false};
     memset(racing, 0, MOST * sizeof *racing);
-    if (trace.event[q].kind > WRITE) return;
+    if (!is_access(trace.event[q])) return;
     clear(&base);
     take(&base, trace.previous[q]);
     for (int first = 0; first < q; first++) {

@@ -21,18 +21,8 @@ use Rattle.session.specs.Races.Witnessed.{no_race as no_witness, written}
 use Rattle.session.proofs.Asked.{asked, scheduled_by}
 use Rattle.session.proofs.Racing.{races_by}
 use Rattle.cases.specs.Cases.{Judges, FindsUnordered, FindsSchedulable, Writes, WitnessRefuses, RacesBy}
-use Rattle.predict.proofs.RuleTests.{Test, some_in, either, read_test, lock_test, before_acquire, frees_here, sync_decided, happens_before_decided, schedulable_decided}
+use Rattle.predict.proofs.RuleTests.{Test, sync_test, happens_before_test, schedulable_test, sync_decided, happens_before_decided, schedulable_decided}
 use Rattle.cases.proofs.Closing.{with_earlier, closes, closure_by}
-
--- the tests of the three rules
-abbrev pub sync_test : Test
-sync_test = either (some_in read_test) lock_test
-
-abbrev pub happens_before_test : Test
-happens_before_test = some_in (before_acquire frees_here)
-
-abbrev pub schedulable_test : Test
-schedulable_test = either happens_before_test (some_in read_test)
 
 -- whether p is outside a closure is seen at any one that is at hand
 outside_or_not : (wants : Wants) (t : List Event) (ss : List ℕ) (p : ℕ) (c : Positions) → Closure wants t ss c → (b : Bool) → c p ≡ not b

@@ -1,4 +1,4 @@
--- The answers on the seven traces.
+-- The answers on the eight traces.
 use Rattle.std.proofs.Common.{◌≡◌, ℕ, ◌<◌, true, false, [], ◌∷◌, ◌++◌, refl}
 use Rattle.std.proofs.lemmas.Bool.{lt-ltb}
 use Rattle.trace.specs.declared.kind.Kind.TheVariants.{Release}
@@ -6,8 +6,8 @@ use Rattle.trace.specs.Records.{record_of}
 use Rattle.trace.specs.Traces.{Admits}
 use Rattle.trace.proofs.Records.{record_means}
 use Rattle.session.specs.Entries.{enter}
-use Rattle.cases.specs.Examples.{event, sections_between, writes_locked, read_between, through_section, one_locked, inner_section}
-use Rattle.cases.specs.Cases.{taken, AllAdmitted, SectionsRace, SectionsOrdered, LockedNoRace, ReadNoRace, ReadRaces, ChainNoRace, OneLockedRaces, InnerSection}
+use Rattle.cases.specs.Examples.{event, sections_between, writes_locked, read_between, through_section, one_locked, inner_section, worker_awaited}
+use Rattle.cases.specs.Cases.{taken, AllAdmitted, SectionsRace, SectionsOrdered, LockedNoRace, ReadNoRace, ReadRaces, ChainNoRace, OneLockedRaces, InnerSection, WorkerAwaited}
 use Rattle.cases.proofs.Asking.{judges_none, refuses_witness, unordered_or_not, schedulable_or_not, races_as}
 use Rattle.cases.proofs.Sweeping.{three_admitted}
 
@@ -67,8 +67,18 @@ inner_races = (
   races_as inner_section 3 5 inner_admitted refl (2 ∷ []) refl refl,
 )
 
+pub worker_admitted : Admits worker_awaited
+worker_admitted = (refl, (refl, (refl, (refl, (refl, (refl, tt))))))
+
+pub worker_races : WorkerAwaited
+worker_races = (
+  judges_none worker_awaited 0 2 worker_admitted refl (1 ∷ []) refl refl,
+  races_as worker_awaited 2 3 worker_admitted refl (1 ∷ []) refl refl,
+  judges_none worker_awaited 2 5 worker_admitted refl (2 ∷ 4 ∷ 1 ∷ []) refl refl,
+)
+
 pub all_admitted : AllAdmitted
-all_admitted = (sections_admitted, locked_admitted, read_admitted, chain_admitted, three_admitted, open_admitted, inner_admitted)
+all_admitted = (sections_admitted, locked_admitted, read_admitted, chain_admitted, three_admitted, open_admitted, inner_admitted, worker_admitted)
 
 -- the release of the lock that is held
 release_entered : (room : ℕ) → 3 < room → enter room one_locked (record_of (event Release 0 0 tt tt)) ≡ taken one_locked (event Release 0 0 tt tt)

@@ -3,8 +3,8 @@
 use Rattle.std.specs.Prelude.{◌≡◌, ℕ, ◌-◌, ◌/◌, ◌%◌, ◌<◌, ◌≤◌, Bool, true, false, List, [], ◌∷◌, ◌++◌, length, drop, Ok, Err}
 use Rattle.trace.specs.declared.event.Event.{Event}
 use Rattle.trace.specs.declared.kind.Kind.{Kind}
-use Rattle.trace.specs.declared.kind.Kind.TheVariants.{Read, Write, Acquire, Release}
-use Rattle.trace.specs.Limits.{locks}
+use Rattle.trace.specs.declared.kind.Kind.TheVariants.{Read, Write, Acquire, Release, Spawn, Join}
+use Rattle.trace.specs.Limits.{locks, threads}
 use Rattle.trace.specs.Records.{number, record_of}
 use Rattle.trace.specs.Traces.{Admits, Allowed, depth, standing_after}
 use Rattle.reel.specs.Boards.{board_room}
@@ -22,7 +22,7 @@ use Rattle.answer.specs.Verdicts.{witness_number}
 use Rattle.session.specs.Entries.{Outcome, enter, load}
 use Rattle.session.specs.Questions.{Answers, Unordered, Schedulable, Vetted}
 use Rattle.session.specs.Races.{Races, Judged, Witness, Witnessed, pair, SweepOf, Swept}
-use Rattle.cases.specs.Examples.{event, sections_between, writes_locked, read_between, through_section, three_accesses, one_locked, inner_section}
+use Rattle.cases.specs.Examples.{event, sections_between, writes_locked, read_between, through_section, three_accesses, one_locked, inner_section, worker_awaited}
 
 -- Judge answers with a verdict
 abbrev pub Judges : List Event → ℕ → ℕ → Verdict → Type 0
@@ -66,11 +66,11 @@ refused t n layer i = record { answer = Err (record { number = n; layer = layer;
 abbrev pub taken : List Event → Event → Outcome (Unit {0})
 taken t e = record { answer = Ok tt; events = t ++ (e ∷ []) }
 
--- the trace check admits the seven traces
+-- the trace check admits the eight traces
 abbrev pub AllAdmitted : Type 0
 AllAdmitted =
     Admits sections_between × Admits writes_locked × Admits read_between × Admits through_section × Admits three_accesses × Admits one_locked
-    × Admits inner_section
+    × Admits inner_section × Admits worker_awaited
 
 -- the sections between the two writes do not keep them from racing, and the witness is the section of the second thread
 abbrev pub SectionsRace : Type 0
@@ -125,6 +125,10 @@ OneLockedRaces =
 abbrev pub InnerSection : Type 0
 InnerSection = Judges inner_section 3 7 NoRace × RacesBy inner_section 3 5 (0 ∷ 1 ∷ 2 ∷ [])
 
+-- the worker's write does not race with the parent's before the spawn, nor with the one after the join, and it races with the one between
+abbrev pub WorkerAwaited : Type 0
+WorkerAwaited = Judges worker_awaited 0 2 NoRace × RacesBy worker_awaited 2 3 (0 ∷ 1 ∷ []) × Judges worker_awaited 2 5 NoRace
+
 -- Vet says yes to the witness, and no to its events in the other order and to less than all of it
 abbrev pub WitnessVetted : Type 0
 WitnessVetted =
@@ -144,30 +148,44 @@ LocksByHolder =
     → (0 < room → enter room [] (record_of e) ≡ taken [] e) × (enter room t (record_of (event Release 1 0 tt tt)) ≡ refused t 6 Trace 0)
     × (enter room t (record_of (event Acquire 1 0 tt tt)) ≡ refused t 5 Trace 0) × (1 < room → enter room t (record_of e) ≡ taken t e)
 
--- where thread 0 is 254 deep in lock 0 its acquire is taken, and where it is 255 deep it is refused with 13
+-- where thread 0, which was not joined, is 254 deep in lock 0 its acquire is taken, and where it is 255 deep it is refused with 13
 abbrev pub LocksDeep : Type 0
 LocksDeep =
     let e = event Acquire 0 0 tt tt in
-    (room : ℕ) (t : List Event) → Admits t
+    (room : ℕ) (t : List Event) → Admits t → let life = (standing_after t).lives 0 in life.joined ≡ false
     → (length t < room → depth 0 0 t ≡ 254 → enter room t (record_of e) ≡ taken t e) × (depth 0 0 t ≡ 255 → enter room t (record_of e) ≡ refused t 13 Trace 0)
+
+-- 0s1 is entered; then the records of 0s1 and of 1j1 are refused with 14, and once 0j1 is entered too, those of 1w0 and of 1s1 with 15
+abbrev pub ThreadsByLife : Type 0
+ThreadsByLife =
+    let e = event Spawn 0 1 tt tt in
+    let t = e ∷ [] in
+    let f = event Join 0 1 tt tt in
+    let u = e ∷ f ∷ [] in
+    (room : ℕ)
+    → (0 < room → enter room [] (record_of e) ≡ taken [] e) × (enter room t (record_of e) ≡ refused t 14 Trace 0)
+    × (enter room t (record_of (event Join 1 1 tt tt)) ≡ refused t 14 Trace 0) × (1 < room → enter room t (record_of f) ≡ taken t f)
+    × (enter room u (record_of (event Write 1 0 tt tt)) ≡ refused u 15 Trace 0) × (enter room u (record_of (event Spawn 1 1 tt tt)) ≡ refused u 15 Trace 0)
 
 -- of three events, Judge of a pair with position 3 is refused with 8, and one of position 2 twice with 9
 abbrev pub PairsRefused : Type 0
 PairsRefused = JudgeRefuses three_accesses 0 3 8 × JudgeRefuses three_accesses 2 2 9
 
--- the records of variable 1,023 and of the last lock, 199, are taken
+-- the records of variable 1,023, of the last lock, 199, and of the last thread, 15, are taken
 abbrev pub LastSubjects : Type 0
 LastSubjects =
     (room : ℕ) → 0 < room
     → (enter room [] (bytes_of Read 1023) ≡ taken [] (event Read 0 1023 tt tt)) × (enter room [] (bytes_of Write 1023) ≡ taken [] (event Write 0 1023 tt tt))
     × (enter room [] (bytes_of Acquire (locks - 1)) ≡ taken [] (event Acquire 0 (locks - 1) tt tt))
+    × (enter room [] (bytes_of Spawn (threads - 1)) ≡ taken [] (event Spawn 0 (threads - 1) tt tt))
 
--- those of variable 1,024 and lock 200 are refused with 4
+-- those of variable 1,024, lock 200 and thread 16 are refused with 4
 abbrev pub SubjectsRefused : Type 0
 SubjectsRefused =
     (room : ℕ) (t : List Event)
     → (enter room t (bytes_of Read 1024) ≡ refused t 4 Record 0) × (enter room t (bytes_of Write 1024) ≡ refused t 4 Record 0)
     × (enter room t (bytes_of Acquire locks) ≡ refused t 4 Record 0) × (enter room t (bytes_of Release locks) ≡ refused t 4 Record 0)
+    × (enter room t (bytes_of Spawn threads) ≡ refused t 4 Record 0) × (enter room t (bytes_of Join threads) ≡ refused t 4 Record 0)
 
 -- a dump of no bytes has no records, and one of 17 bytes is refused with 1, at the index after its two whole records
 abbrev pub DumpLengths : Type 0

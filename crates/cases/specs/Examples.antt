@@ -1,10 +1,10 @@
--- Seven small traces. In the comments an event is its thread, a letter and its subject: w writes a variable, r reads one, a acquires a lock and
--- z releases one. All events are at site 0.
+-- Eight small traces. In the comments an event is its thread, a letter and its subject: w writes a variable, r reads one, a acquires a lock, z
+-- releases one, s spawns a thread and j joins one. All events are at site 0.
 use Rattle.std.specs.Prelude.{ℕ, T, List, [], ◌∷◌, nat_lt}
 use Rattle.std.proofs.Common.{lit<}
 use Rattle.trace.specs.declared.event.Event.{Event}
 use Rattle.trace.specs.declared.kind.Kind.{Kind}
-use Rattle.trace.specs.declared.kind.Kind.TheVariants.{Read, Write, Acquire, Release}
+use Rattle.trace.specs.declared.kind.Kind.TheVariants.{Read, Write, Acquire, Release, Spawn, Join}
 use Rattle.trace.specs.Limits.{threads, subjects}
 
 -- an event of a kind, by a thread, on a subject, each within its limit
@@ -48,3 +48,8 @@ abbrev pub inner_section : List Event
 inner_section =
     event Acquire 0 0 tt tt ∷ event Acquire 0 0 tt tt ∷ event Release 0 0 tt tt ∷ event Write 0 0 tt tt ∷ event Release 0 0 tt tt
     ∷ event Write 1 0 tt tt ∷ event Acquire 1 0 tt tt ∷ event Write 1 0 tt tt ∷ []
+
+-- 0w0 0s1 1w0 0w0 0j1 0w0: a parent writes, starts a worker that writes too, writes again, awaits the worker and writes
+abbrev pub worker_awaited : List Event
+worker_awaited =
+    event Write 0 0 tt tt ∷ event Spawn 0 1 tt tt ∷ event Write 1 0 tt tt ∷ event Write 0 0 tt tt ∷ event Join 0 1 tt tt ∷ event Write 0 0 tt tt ∷ []

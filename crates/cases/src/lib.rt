@@ -2,15 +2,15 @@
 //! their proofs; the function does nothing.
 #![tactic(auto)]
 
-ghost use Rattle.cases.specs.Cases.{AllAdmitted, SectionsRace, SectionsOrdered, LockedNoRace, ReadNoRace, ReadRaces, ChainNoRace, ThreeSwept, OneLockedRaces, InnerSection};
-ghost use Rattle.cases.specs.Cases.{WitnessVetted, LocksByHolder, LocksDeep, PairsRefused, LastSubjects, SubjectsRefused, DumpLengths, LastRoom};
+ghost use Rattle.cases.specs.Cases.{AllAdmitted, SectionsRace, SectionsOrdered, LockedNoRace, ReadNoRace, ReadRaces, ChainNoRace, ThreeSwept, OneLockedRaces, InnerSection, WorkerAwaited};
+ghost use Rattle.cases.specs.Cases.{WitnessVetted, LocksByHolder, LocksDeep, ThreadsByLife, PairsRefused, LastSubjects, SubjectsRefused, DumpLengths, LastRoom};
 
 pub mod lent;
 #[cfg(test)]
 mod tests;
 
-/// The answers on seven small traces, and at the limits of records, dumps and reels.
+/// The answers on eight small traces, and at the limits of records, dumps and reels.
 pub fn worked_cases()
     ensures { AllAdmitted × SectionsRace × SectionsOrdered × LockedNoRace × ReadNoRace × ReadRaces × ChainNoRace × ThreeSwept × OneLockedRaces × InnerSection
-        × WitnessVetted × LocksByHolder × LocksDeep × PairsRefused × LastSubjects × SubjectsRefused × DumpLengths × LastRoom }
+        × WorkerAwaited × WitnessVetted × LocksByHolder × LocksDeep × ThreadsByLife × PairsRefused × LastSubjects × SubjectsRefused × DumpLengths × LastRoom }
 {}

@@ -11,6 +11,7 @@ use trace::fault::Fault;
 use trace::kind::Kind;
 use trace::limits::LOCKS;
 
+mod checks;
 mod reports;
 mod sessions;
 
@@ -21,8 +22,8 @@ fn record(kind: Kind, thread: u8, subject: u16) -> [u8; 8] {
     [u8::from(kind), thread, low, high, 0, 0, 0, 0]
 }
 
-/// The record of an event that is written as its thread, a letter and its subject: w writes a variable, r reads one, a acquires a lock and z
-/// releases one.
+/// The record of an event that is written as its thread, a letter and its subject: w writes a variable, r reads one, a acquires a lock, z
+/// releases one, s spawns a thread and j joins one.
 fn record_of(event: &str) -> Result<[u8; 8], Fail> {
     let [thread, letter, subject] = event.as_bytes() else {
         return Err(Fail::new("an event is three characters"));
@@ -32,6 +33,8 @@ fn record_of(event: &str) -> Result<[u8; 8], Fail> {
         b'w' => Kind::Write,
         b'a' => Kind::Acquire,
         b'z' => Kind::Release,
+        b's' => Kind::Spawn,
+        b'j' => Kind::Join,
         _ => return Err(Fail::new("no such letter")),
     };
     let subject = subject.wrapping_sub(b'0');

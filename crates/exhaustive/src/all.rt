@@ -1,25 +1,40 @@
 //! All small traces.
+use crate::check::is_admitted;
 use crate::compare::compare;
 use crate::shape::Shape;
-use crate::steps::{Step, Trace, is_admitted};
+use crate::steps::{Step, Trace, names_thread};
 use crate::tally::Tally;
 use std::alloc::Global;
 use trace::event::Event;
 
-/// The first thread that no event of the trace has, and none before it.
-fn next_thread(trace: &[Step]) -> u8 {
+/// The first thread behind those that the event has and names.
+fn thread_behind(event: &Event) -> u16 {
+    let named = if names_thread(event.kind) {
+        event.subject
+    } else {
+        0
+    };
+    named.max(u16::from(event.thread)).saturating_add(1)
+}
+
+/// The first thread that no event of the trace has or names.
+fn next_thread(trace: &[Step]) -> u16 {
     trace
         .iter()
-        .map(|step| step.event.thread.saturating_add(1))
+        .map(|step| thread_behind(&step.event))
         .max()
         .unwrap_or(0)
 }
 
-/// The first subject of the event's sort, a variable or a lock, that no event of the trace has.
+/// The first subject of the event's sort that no event of the trace has: a variable, a lock, or a thread that is not the event's own.
 fn next_subject(trace: &[Step], event: &Event) -> u16 {
+    if names_thread(event.kind) {
+        return next_thread(trace).max(u16::from(event.thread).saturating_add(1));
+    }
     trace
         .iter()
-        .filter(|step| step.event.kind.is_access() == event.kind.is_access())
+        .filter(|step| step.event.kind.is_access() == event.kind.is_access()
+            && step.event.kind.is_lock() == event.kind.is_lock())
         .map(|step| step.event.subject.saturating_add(1))
         .max()
         .unwrap_or(0)
@@ -29,7 +44,7 @@ fn next_subject(trace: &[Step], event: &Event) -> u16 {
 /// other traces differ from such a one in these numbers alone.
 fn is_tried(trace: &[Step], event: &Event) -> bool {
     is_admitted(trace, event)
-        && event.thread <= next_thread(trace)
+        && u16::from(event.thread) <= next_thread(trace)
         && event.subject <= next_subject(trace, event)
 }
 

@@ -1,4 +1,5 @@
 //! The answers of a session, each compared with what the search through all reorderings found.
+use crate::check::refusal_of;
 use crate::search::Search;
 use crate::steps::{Step, Trace};
 use crate::tally::Tally;
@@ -7,6 +8,7 @@ use reel::board::BoardReel;
 use reel::host::HostReel;
 use session::session::Session;
 use std::alloc::{AllocError, Global};
+use trace::fault::Fault;
 use trace::record::encode;
 
 mod lists;
@@ -43,6 +45,16 @@ fn enter<R: Reel>(session: &mut Session<R>, trace: &[Step], tally: &mut Tally) {
     }
 }
 
+/// Enters each event again, if the trace check refuses it at the end of the trace, and compares with what number.
+fn enter_refused<R: Reel>(session: &mut Session<R>, trace: &[Step], tally: &mut Tally) {
+    for step in trace {
+        if let Some(number) = refusal_of(trace, &step.event) {
+            let refused = session.enter(&encode(&step.event)).err();
+            tally.compare(refused.is_some_and(|refusal| refusal.fault.number() == number));
+        }
+    }
+}
+
 /// Compares all that a session over the reel says of the trace.
 fn compare_over<R: Reel + Drop>(
     reel: R,
@@ -53,10 +65,12 @@ fn compare_over<R: Reel + Drop>(
     enter(&mut session, search.trace, tally);
     let mut comparison = Comparison {
         session: &session,
-        search,
+        search: &*search,
         tally,
     };
-    comparison.compare()
+    comparison.compare()?;
+    enter_refused(&mut session, search.trace, tally);
+    Ok(())
 }
 
 /// Compares all that a session says of the trace, which has at most 16 events. The two reels take turns.

@@ -1,9 +1,10 @@
 //! Larger traces, drawn by a fixed generator.
 ghost use Rattle.std.specs.Prelude.{◌<◌};
 
+use crate::check::{holder_of, is_admitted, is_known};
 use crate::compare::compare;
 use crate::shape::{Shape, event};
-use crate::steps::{Trace, holder_of};
+use crate::steps::Trace;
 use crate::tally::Tally;
 use std::alloc::Global;
 use trace::event::Event;
@@ -12,6 +13,12 @@ use trace::limits::LOCKS;
 
 /// How many events more than the fewest a trace may have.
 const MORE: u8 = 3;
+
+/// Where threads may be spawned and joined, of eight events so many do it on average.
+const SPAWNS: u8 = 2;
+
+/// How often an event is drawn for a trace at most. Nearly all traces are full long before.
+const DRAWS: usize = 255;
 
 /// How traces are drawn.
 #[derive(Clone, Copy)]
@@ -84,10 +91,26 @@ impl Generator {
         }
     }
 
-    /// An event that the trace check admits after the trace.
-    fn next_event(&mut self, trace: &Trace) -> anyhow::Result<Event> {
-        if self.below(8) < self.manner.accesses {
+    /// A spawn of some thread, if the trace does not know it; else, and in one of four cases, a join.
+    fn deed(&mut self, trace: &Trace) -> anyhow::Result<Event> {
+        let thread = self.thread();
+        let other = u16::from(self.below(self.shape.threads));
+        let kind = if is_known(trace.steps(), other) || self.below(4) == 0 {
+            Kind::Join
+        } else {
+            Kind::Spawn
+        };
+        event(kind, thread, other)
+    }
+
+    /// An event, which the trace check need not admit after the trace.
+    fn some_event(&mut self, trace: &Trace) -> anyhow::Result<Event> {
+        let drawn = self.below(8);
+        let accesses = self.manner.accesses;
+        if drawn < accesses {
             self.access()
+        } else if self.shape.spawns && drawn < accesses.saturating_add(SPAWNS) {
+            self.deed(trace)
         } else {
             self.turn(trace)
         }
@@ -96,8 +119,15 @@ impl Generator {
     /// A trace.
     fn trace(&mut self, heap: Global) -> anyhow::Result<Trace> {
         let mut trace = Trace::new(heap);
-        for _ in 0..self.manner.least.saturating_add(self.below(MORE + 1)) {
-            trace.extend(self.next_event(&trace)?)?;
+        let length = usize::from(self.manner.least.saturating_add(self.below(MORE + 1)));
+        for _ in 0..DRAWS {
+            if trace.steps().len() == length {
+                break;
+            }
+            let event = self.some_event(&trace)?;
+            if is_admitted(trace.steps(), &event) {
+                trace.extend(event)?;
+            }
         }
         Ok(trace)
     }

@@ -8,6 +8,7 @@ use std::process::ExitCode;
 use tally::Tally;
 
 mod all;
+mod check;
 mod compare;
 mod drawn;
 mod plan;
@@ -31,12 +32,16 @@ fn carry_out_all(rt: &HostRuntime) -> anyhow::Result<Tally> {
         Plan::of(Choice::All { most: 7 }, 2, 1, 1),
         Plan::of(Choice::All { most: 5 }, 2, 1, 2),
         Plan::of(Choice::All { most: 5 }, 2, 2, 1),
-        Plan::of(Choice::All { most: 6 }, 3, 1, 1),
+        Plan::of(Choice::All { most: 5 }, 3, 1, 1),
         Plan::of(Choice::All { most: 5 }, 3, 2, 1),
+        Plan::of(Choice::All { most: 5 }, 3, 1, 1).spawning(),
         Plan::of(Choice::drawn(3000, 8, 5), 3, 2, 2),
         Plan::of(Choice::drawn(500, 8, 5), 4, 3, 2),
         Plan::of(Choice::drawn(1000, 10, 3), 3, 1, 1),
         Plan::of(Choice::drawn(1000, 12, 4), 2, 1, 2),
+        Plan::of(Choice::drawn(3000, 8, 4), 3, 1, 1).spawning(),
+        Plan::of(Choice::drawn(2000, 10, 3), 3, 1, 2).spawning(),
+        Plan::of(Choice::drawn(200, 10, 4), 4, 2, 1).spawning(),
     ];
     let mut total = Tally::default();
     for plan in &plans {

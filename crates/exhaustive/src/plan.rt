@@ -39,9 +39,16 @@ impl Plan {
                 threads,
                 variables,
                 locks,
+                spawns: false,
             },
             choice,
         }
+    }
+
+    /// The same, where threads may be spawned and joined.
+    pub(crate) fn spawning(mut self) -> Plan {
+        self.shape.spawns = true;
+        self
     }
 
     /// Tries the traces of the plan.

@@ -1,6 +1,14 @@
 //! Happens-before and schedulable happens-before, by plain reachability.
 use crate::steps::Step;
 use std::alloc::{AllocError, Global};
+use trace::kind::Kind;
+
+/// Whether the earlier of two events spawns the thread of the later one, or the later one joins the thread that the earlier one is of or spawns.
+fn is_before_by_thread(earlier: &Step, later: &Step) -> bool {
+    let awaited = later.event.subject;
+    earlier.spawns(u16::from(later.event.thread))
+        || later.event.kind == Kind::Join && (earlier.is_of(awaited) || earlier.spawns(awaited))
+}
 
 /// Whether happens-before puts the earlier of two events directly before the later one.
 pub(crate) fn happens_before(earlier: &Step, later: &Step) -> bool {
@@ -8,7 +16,7 @@ pub(crate) fn happens_before(earlier: &Step, later: &Step) -> bool {
     let by_lock = earlier.is_freeing_release()
         && later.is_outer_acquire()
         && earlier.event.subject == later.event.subject;
-    in_thread || by_lock
+    in_thread || by_lock || is_before_by_thread(earlier, later)
 }
 
 /// Whether schedulable happens-before does: it also puts a write before the reads whose last write it is.

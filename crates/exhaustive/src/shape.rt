@@ -6,7 +6,14 @@ use trace::kind::Kind;
 use trace::record::event_of;
 
 /// Every kind of event.
-const KINDS: [Kind; 4] = [Kind::Read, Kind::Write, Kind::Acquire, Kind::Release];
+const KINDS: [Kind; 6] = [
+    Kind::Read,
+    Kind::Write,
+    Kind::Acquire,
+    Kind::Release,
+    Kind::Spawn,
+    Kind::Join,
+];
 
 /// How many threads, variables and locks traces may name.
 #[derive(Clone, Copy)]
@@ -14,15 +21,18 @@ pub(crate) struct Shape {
     pub(crate) threads: u8,
     pub(crate) variables: u8,
     pub(crate) locks: u8,
+    /// Whether threads may be spawned and joined.
+    pub(crate) spawns: bool,
 }
 
 impl Shape {
     /// How many subjects the events of the kind may name.
     fn subjects(&self, kind: Kind) -> u8 {
-        if kind.is_access() {
-            self.variables
-        } else {
-            self.locks
+        match kind {
+            Kind::Read | Kind::Write => self.variables,
+            Kind::Acquire | Kind::Release => self.locks,
+            Kind::Spawn | Kind::Join if self.spawns => self.threads,
+            Kind::Spawn | Kind::Join => 0,
         }
     }
 

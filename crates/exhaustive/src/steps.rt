@@ -1,4 +1,5 @@
 //! Traces and their reorderings, word by word: each question goes through the list that it is about, and none knows of cuts or closures.
+use crate::check::{depth_of, is_admitted};
 use std::alloc::Global;
 use trace::event::Event;
 use trace::kind::Kind;
@@ -11,10 +12,22 @@ pub(crate) struct Step {
     pub(crate) event: Event,
     /// How many events of its thread stand before it.
     pub(crate) rank: usize,
+    /// Where the spawn of its thread stands, if there is one before it.
+    pub(crate) spawn: Option<u16>,
+    /// Of a join, what it awaits.
+    awaited: Awaited,
     /// Of an acquire or a release, how deep its thread is in the lock before it.
     pub(crate) depth: usize,
     /// Of a read, where its last write stands, if it has one.
     pub(crate) last_write: Option<u16>,
+}
+
+/// What a join awaits of the thread that it names: so many events, and the spawn of the thread, if there is one before the join. Other events
+/// await nothing.
+#[derive(Clone, Copy, Default)]
+struct Awaited {
+    events: usize,
+    spawn: Option<u16>,
 }
 
 impl Step {
@@ -33,8 +46,23 @@ impl Step {
         match self.event.kind {
             Kind::Acquire => !self.is_outer_acquire(),
             Kind::Release => !self.is_freeing_release(),
-            Kind::Read | Kind::Write => false,
+            Kind::Read | Kind::Write | Kind::Spawn | Kind::Join => false,
         }
+    }
+
+    /// Whether it is a spawn of the thread.
+    pub(crate) fn spawns(&self, thread: u16) -> bool {
+        self.event.kind == Kind::Spawn && self.event.subject == thread
+    }
+
+    /// Whether it is a join of the thread.
+    pub(crate) fn joins(&self, thread: u16) -> bool {
+        self.event.kind == Kind::Join && self.event.subject == thread
+    }
+
+    /// Whether it is an event of the thread.
+    pub(crate) fn is_of(&self, thread: u16) -> bool {
+        u16::from(self.event.thread) == thread
     }
 
     /// Whether a read reads after the list what it read in the trace.
@@ -53,25 +81,57 @@ impl Step {
     }
 
     /// Whether the event is enabled after the list, which has of each thread the first events: it is not in the list, and all earlier events
-    /// of its thread are.
+    /// of its thread are, and the spawn of its thread.
     pub(crate) fn is_enabled(&self, list: &[Step]) -> bool {
-        count_of(list, self.event.thread) == self.rank
+        count_of(list, u16::from(self.event.thread)) == self.rank && has(list, self.spawn)
+    }
+
+    /// Whether the list, which has of each thread the first events, has all that a join awaits.
+    fn finds_awaited(&self, list: &[Step]) -> bool {
+        count_of(list, self.event.subject) >= self.awaited.events && has(list, self.awaited.spawn)
     }
 
     /// Whether the list with the step after it is a sync-preserving correct reordering, where the list is one.
     pub(crate) fn may_follow(&self, list: &[Step]) -> bool {
         self.is_enabled(list)
+            && self.finds_awaited(list)
             && is_admitted(list, &self.event)
             && self.reads_the_same(list)
             && self.keeps_order(list)
     }
 }
 
+/// Whether an event of the kind names a thread.
+pub(crate) fn names_thread(kind: Kind) -> bool {
+    kind == Kind::Spawn || kind == Kind::Join
+}
+
 /// How many events of the thread the list has.
-fn count_of(list: &[Step], thread: u8) -> usize {
+fn count_of(list: &[Step], thread: u16) -> usize {
+    list.iter().filter(|step| step.is_of(thread)).count()
+}
+
+/// Whether the list has the position, if there is one.
+fn has(list: &[Step], position: Option<u16>) -> bool {
+    position.is_none_or(|position| list.iter().any(|step| step.position == position))
+}
+
+/// Where the list spawns the thread, if it does.
+fn spawn_of(list: &[Step], thread: u16) -> Option<u16> {
     list.iter()
-        .filter(|step| step.event.thread == thread)
-        .count()
+        .find(|step| step.spawns(thread))
+        .map(|step| step.position)
+}
+
+/// What an event after the list awaits.
+fn awaited_by(list: &[Step], event: &Event) -> Awaited {
+    if event.kind != Kind::Join {
+        return Awaited::default();
+    }
+    Awaited {
+        events: count_of(list, event.subject),
+        spawn: spawn_of(list, event.subject),
+    }
 }
 
 /// Where the latest write to the variable in the list stands in the trace.
@@ -80,41 +140,6 @@ fn latest_write(list: &[Step], variable: u16) -> Option<u16> {
         .rev()
         .find(|step| step.event.kind == Kind::Write && step.event.subject == variable)
         .map(|step| step.position)
-}
-
-/// How often the thread turns the lock in the list by an event of the kind.
-fn turns_of(list: &[Step], kind: Kind, thread: u8, lock: u16) -> usize {
-    list.iter()
-        .filter(|step| step.event.kind == kind
-            && step.event.thread == thread
-            && step.event.subject == lock)
-        .count()
-}
-
-/// How deep the thread is in the lock after the events of the list: how often it acquired the lock and did not release it again.
-fn depth_of(list: &[Step], thread: u8, lock: u16) -> usize {
-    let acquires = turns_of(list, Kind::Acquire, thread, lock);
-    acquires.saturating_sub(turns_of(list, Kind::Release, thread, lock))
-}
-
-/// Who holds the lock after the events of the list: whoever acquired or released it last, if that thread is still in it.
-pub(crate) fn holder_of(list: &[Step], lock: u16) -> Option<u8> {
-    list.iter()
-        .rev()
-        .find(|step| !step.event.kind.is_access() && step.event.subject == lock)
-        .map(|step| step.event.thread)
-        .filter(|thread| depth_of(list, *thread, lock) > 0)
-}
-
-/// Whether the trace check admits the event after the events of the list, which are fewer than it takes to hold a lock too deep.
-pub(crate) fn is_admitted(list: &[Step], event: &Event) -> bool {
-    match event.kind {
-        Kind::Acquire => {
-            holder_of(list, event.subject).is_none_or(|holder| holder == event.thread)
-        }
-        Kind::Release => holder_of(list, event.subject) == Some(event.thread),
-        Kind::Read | Kind::Write => true,
-    }
 }
 
 /// Whether the list is a sync-preserving correct reordering: each step may follow those before it.
@@ -146,19 +171,22 @@ impl Trace {
     /// Lets the event come next.
     pub(crate) fn extend(&mut self, event: Event) -> anyhow::Result<()> {
         let position = u16::try_from(self.steps.len())?;
-        let rank = count_of(self.steps(), event.thread);
-        let depth = depth_of(self.steps(), event.thread, event.subject);
-        let last_write = match event.kind {
-            Kind::Read => latest_write(self.steps(), event.subject),
-            Kind::Write | Kind::Acquire | Kind::Release => None,
+        let thread = u16::from(event.thread);
+        let last_write = if event.kind == Kind::Read {
+            latest_write(self.steps(), event.subject)
+        } else {
+            None
         };
-        self.steps.push(Step {
+        let step = Step {
             position,
             event,
-            rank,
-            depth,
+            rank: count_of(self.steps(), thread),
+            spawn: spawn_of(self.steps(), thread),
+            awaited: awaited_by(self.steps(), &event),
+            depth: depth_of(self.steps(), event.thread, event.subject),
             last_write,
-        })?;
+        };
+        self.steps.push(step)?;
         Ok(())
     }
 

@@ -1,6 +1,6 @@
 //! What was tried, in numbers.
 use crate::search::Search;
-use crate::steps::Trace;
+use crate::steps::{Trace, names_thread};
 use std::alloc::AllocError;
 use std::ops::AddAssign;
 
@@ -10,6 +10,8 @@ pub(crate) struct Tally {
     pub(crate) traces: u64,
     /// How many inner acquires and inner releases the traces have.
     pub(crate) inner: u64,
+    /// How many spawns and joins they have.
+    pub(crate) spawns: u64,
     pub(crate) pairs: u64,
     pub(crate) races: u64,
     pub(crate) reorderings: u64,
@@ -23,6 +25,11 @@ impl Tally {
     /// Counts what a search has tried.
     pub(crate) fn count(&mut self, search: &Search<'_>) {
         let inner = search.trace.iter().filter(|step| step.is_inner()).count();
+        let spawns = search
+            .trace
+            .iter()
+            .filter(|step| names_thread(step.event.kind))
+            .count();
         let pairs = search.findings.len();
         let races = search
             .findings
@@ -31,6 +38,7 @@ impl Tally {
             .count();
         self.traces = self.traces.saturating_add(1);
         self.inner = self.inner.saturating_add(inner as u64);
+        self.spawns = self.spawns.saturating_add(spawns as u64);
         self.reorderings = self.reorderings.saturating_add(search.reorderings);
         self.pairs = self.pairs.saturating_add(pairs as u64);
         self.races = self.races.saturating_add(races as u64);
@@ -58,6 +66,7 @@ impl AddAssign for Tally {
     fn add_assign(&mut self, other: Tally) {
         self.traces = self.traces.saturating_add(other.traces);
         self.inner = self.inner.saturating_add(other.inner);
+        self.spawns = self.spawns.saturating_add(other.spawns);
         self.pairs = self.pairs.saturating_add(other.pairs);
         self.races = self.races.saturating_add(other.races);
         self.reorderings = self.reorderings.saturating_add(other.reorderings);

@@ -36,7 +36,11 @@ impl fmt::Display for Plan {
             f,
             "{}, threads {}, variables {}, locks {}",
             self.choice, self.shape.threads, self.shape.variables, self.shape.locks
-        )
+        )?;
+        if self.shape.spawns {
+            f.write_str(", with spawns and joins")?;
+        }
+        Ok(())
     }
 }
 
@@ -45,9 +49,10 @@ impl fmt::Display for Tally {
     fn fmt<W: fmt::Write>(&self, f: &mut fmt::Formatter<W>) -> fmt::Result {
         write!(
             f,
-            "traces {}, inner {}, pairs {}, races {}, reorderings {}, answers {}, differences {}",
+            "traces {}, inner {}, spawns and joins {}, pairs {}, races {}, reorderings {}, answers {}, differences {}",
             self.traces,
             self.inner,
+            self.spawns,
             self.pairs,
             self.races,
             self.reorderings,
@@ -64,6 +69,8 @@ fn letter_of(kind: Kind) -> char {
         Kind::Write => 'w',
         Kind::Acquire => 'a',
         Kind::Release => 'z',
+        Kind::Spawn => 's',
+        Kind::Join => 'j',
     }
 }
 

@@ -5,7 +5,8 @@ use Rattle.std.proofs.lemmas.Bool.{false≢true}
 use Rattle.trace.specs.declared.event.Event.{Event}
 use Rattle.trace.specs.Faults.{told}
 use Rattle.trace.specs.Cuts.{In, SyncWants}
-use Rattle.trace.specs.Cuts.SyncWants.{last_write, earlier_release}
+use Rattle.trace.specs.Cuts.SyncWants.{of_threads, last_write, earlier_release}
+use Rattle.trace.specs.Cuts.ThreadWants.{spawn, awaited_spawn, awaited_last}
 use Rattle.trace.proofs.Exact.{exact}
 use Rattle.trace.proofs.Growing.{empty_cut}
 use Rattle.trace.proofs.Reached.{closure_from}
@@ -65,6 +66,9 @@ two_race =
     t = (loaded two_records).events
 
     wants_none : (w : ℕ) → SyncWants t (λ k. false) w → In w (λ k. false)
+    wants_none w (of_threads (spawn i s)) = absurd (false≢true i)
+    wants_none w (of_threads (awaited_spawn i s)) = absurd (false≢true i)
+    wants_none w (of_threads (awaited_last i l)) = absurd (false≢true i)
     wants_none w (last_write i l) = absurd (false≢true i)
     wants_none w (earlier_release i l h j k m n) = absurd (false≢true i)
 

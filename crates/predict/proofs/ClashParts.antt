@@ -6,13 +6,13 @@ use Rattle.std.specs.Result.{is_err}
 use Rattle.std.proofs.lemmas.List.{length-set, get_or-set_same, get_or-set_other, get_or-replicate, get_or_past}
 use Rattle.trace.specs.declared.event.Event.{Event}
 use Rattle.trace.specs.declared.kind.Kind.{Kind}
-use Rattle.trace.specs.declared.kind.Kind.TheVariants.{Read, Write, Acquire, Release}
-use Rattle.trace.specs.declared.locks.LockTable.{LockTable}
+use Rattle.trace.specs.declared.kind.Kind.TheVariants.{Read, Write, Acquire, Release, Spawn, Join}
+use Rattle.trace.specs.declared.check.TraceCheck.{TraceCheck}
 use Rattle.trace.specs.declared.locks.TraceFault.{TraceFault}
 use Rattle.trace.specs.Limits.{locks}
 use Rattle.trace.specs.Faults.{trace_number}
 use Rattle.trace.specs.Traces.{standing_after, lock_refusal, Allowed, Admits}
-use Rattle.trace.specs.Locks.{Tells, Turned, standing}
+use Rattle.trace.specs.Checks.{Tells, Turned, standing}
 use Rattle.trace.specs.Reorderings.{picked}
 use Rattle.trace.specs.Cuts.{In, Closed, listed}
 use Rattle.trace.proofs.Faults.{ok_refuses_none}
@@ -43,14 +43,14 @@ zeros l = ⊎_elim (λ h. get_or-replicate locks l 0 0 h) (λ h. get_or_past (re
 
 module _ (t : List Event) (bs : List ℕ) where
   -- the trace check admits the events of the cut below k, and the table tells of them
-  pub record Checked (k : ℕ) (table : LockTable) : Type 0 where
+  pub record Checked (k : ℕ) (table : TraceCheck) : Type 0 where
     pub admitted : Admits (picked t (listed (held t bs) k))
     pub tells : Tells table (picked t (listed (held t bs) k))
 
-  pub checked_start : (table : LockTable) → Tells table [] → Checked 0 table
+  pub checked_start : (table : TraceCheck) → Tells table [] → Checked 0 table
   checked_start table tells = record { admitted = tt; tells = tells }
 
-  module _ {k : ℕ} {e : Event} {b : Bool} (seen : Seen t bs k e b) (table : LockTable) (known : Admits t → Checked k table) where
+  module _ {k : ℕ} {e : Event} {b : Bool} (seen : Seen t bs k e b) (table : TraceCheck) (known : Admits t → Checked k table) where
     -- an event outside the cut
     pub checked_out : b ≡ false → Admits t → Checked (k + 1) table
     checked_out out ok =
@@ -58,7 +58,7 @@ module _ (t : List Event) (bs : List ℕ) where
         let same = listed_out (held t bs) k (seen_held t bs seen ∙ out) in
         record { admitted = rw (add-one, same) c.admitted; tells = rw (add-one, same) c.tells }
 
-    module _ (inside : b ≡ true) (next : LockTable) (r : Result (Unit {0}) TraceFault) (turned : Turned table e r next) where
+    module _ (inside : b ≡ true) (next : TraceCheck) (r : Result (Unit {0}) TraceFault) (turned : Turned table e r next) where
       here : In k (held t bs)
       here = seen_held t bs seen ∙ inside
 
@@ -78,30 +78,27 @@ module _ (t : List Event) (bs : List ℕ) where
             tells = rw (add-one, more, all) (subst (Tells next) (cond-true (is_ok r) (before ++ (e ∷ [])) before lets) (turned.tells before c.tells));
           }
 
-      -- one that it turns away is on a lock
-      pub refused_lock : is_err r ≡ true → e.subject < locks
-      refused_lock fails = of_kind e.kind refl
-        where
-          refusal : lock_refusal e.kind e.thread ((standing table).holders e.subject) ≡ None → ⊥
-          refusal none = both_ways (is_ok r) (refuses r fails) ((ok_refuses_none trace_number r).1 (turned.by_standing ∙ none))
-
-          of_kind : (x : Kind) → e.kind ≡ x → e.subject < locks
-          of_kind Read q = absurd (refusal (rw q refl))
-          of_kind Write q = absurd (refusal (rw q refl))
-          of_kind Acquire q = rw q at e.known_subject
-          of_kind Release q = rw q at e.known_subject
-
-      -- and clashes with an earlier acquire, whose release is missing
-      clash : Admits t → is_err r ≡ true → SettledBefore t (held t bs) e.subject (k + 1) → ⊥
-      clash ok fails settled =
+      -- one that it turns away clashes with an earlier acquire, whose release is missing
+      clashes : Admits t → is_err r ≡ true → Clash t (held t bs) k e
+      clashes ok fails =
           let c = known ok in
-          ⊎_elim (λ a. both_ways (is_ok r) (refuses r fails) ((ok_refuses_none trace_number r).1 (turned.answer before c.tells ∙ a))) missing
+          ⊎_elim (λ a. absurd (both_ways (is_ok r) (refuses r fails) ((ok_refuses_none trace_number r).1 (turned.answer before c.tells ∙ a)))) (λ x. x)
           (allowed_or t (held t bs) ok (held_cut t bs) k e (seen_at t bs seen) here c.admitted)
+
+      -- so it is an acquire
+      pub checked_never : is_err r ≡ true → (e.kind ≡ Acquire → ⊥) → Admits t → Checked (k + 1) next
+      checked_never fails other ok = absurd (other (clashes ok fails).second.is_acquire)
+
+      clash : Admits t → is_err r ≡ true → SettledBefore t (held t bs) e.subject (k + 1) → ⊥
+      clash ok fails settled = missing (clashes ok fails)
         where
           missing : Clash t (held t bs) k e → ⊥
           missing x = both_ways (held t bs x.release) x.missing (settled x.first k x.release
               (record { event = x.event; inside = x.first_in; outer = x.outer; its_lock = x.same_lock })
               (record { event = e; inside = here; outer = x.second; its_lock = refl }) x.order (omega arith) x.is)
+
+      few : e.kind ≡ Acquire → e.subject < locks
+      few q = rw q at e.known_subject
 
       inside_trace : k + 1 ≤ length t
       inside_trace = let low = at_inside t k e (seen_at t bs seen) in omega arith
@@ -110,20 +107,20 @@ module _ (t : List Event) (bs : List ℕ) where
       ends = set (replicate locks 0) e.subject (k + 1)
 
       -- so it is enough to look at its lock up to here
-      pub clash_ends : is_err r ≡ true → Enough t bs (set (replicate locks 0) e.subject (k + 1))
-      clash_ends fails = record {
+      pub clash_ends : is_err r ≡ true → e.kind ≡ Acquire → Enough t bs (set (replicate locks 0) e.subject (k + 1))
+      clash_ends fails acquire = record {
         whole = length-set (replicate locks 0) e.subject (k + 1);
         within = λ l. ⊎_elim
-            (λ q. omega (arith, inside_trace, get_or-set_same (replicate locks 0) e.subject (k + 1) 0 (refused_lock fails), ap (λ m. get_or ends m 0) q))
+            (λ q. omega (arith, inside_trace, get_or-set_same (replicate locks 0) e.subject (k + 1) 0 (few acquire), ap (λ m. get_or ends m 0) q))
             (λ q. omega (arith, get_or-set_other (replicate locks 0) e.subject l (k + 1) 0 q, zeros l)) (cases_eq l e.subject);
         enough = λ ok settled.
-            absurd (clash ok fails (rw (get_or-set_same (replicate locks 0) e.subject (k + 1) 0 (refused_lock fails)) at (settled e.subject)));
+            absurd (clash ok fails (rw (get_or-set_same (replicate locks 0) e.subject (k + 1) 0 (few acquire)) at (settled e.subject)));
       }
 
   -- where the pass comes to an end, the cut wants no release
   checked_closed : (k : ℕ) → length t ≤ k → Admits (picked t (listed (held t bs) k)) → Closed LockWants t (held t bs)
   checked_closed k long ok w h = (listed_within (held t bs) k w (of_front s
-      (release_among t s.front (orderly_front t (listed (held t bs) k) order s) (admits_before t s f.event f.outer.is ok) h.second f.event f.outer (order.enabled s)
+      (release_among t s.front (orderly_front t (listed (held t bs) k) order s) (admits_before t s f.event f.outer.is ok) h.second f.event f.outer (order.in_turn s)
       (allowed_at t s f.event f.outer.is ok) h.first w e.event
       (listed_front (held t bs) k s h.first e.inside h.order) e.outer (e.its_lock ∙ sym f.its_lock) h.release))).0
     where

@@ -1,5 +1,5 @@
 -- What an iterator's search finds: the latest event before a position.
-use Rattle.std.proofs.Common.{◌≡◌, ℕ, zero, suc, ◌+◌, ◌-◌, ◌<◌, ◌≤◌, Bool, true, false, cond, eqb, ◌&&◌, List, [], ◌∷◌, length, Some, None, Option, Bor, sym, refl, ap, ◌∙◌, subst, add-one, arith}
+use Rattle.std.proofs.Common.{◌≡◌, ℕ, zero, suc, ◌+◌, ◌-◌, ◌<◌, ◌≤◌, Bool, true, false, cond, eqb, ◌&&◌, List, [], ◌∷◌, length, Some, None, Option, MatchOption, Bor, sym, refl, ap, ◌∙◌, subst, add-one, arith}
 use Rattle.std.specs.Fn.{Mut, CalledAt}
 use Rattle.std.specs.Iterator.{FindsItem}
 use Rattle.std.specs.Iterator.Adapters.{rev_steps}
@@ -11,9 +11,9 @@ use Rattle.std.specs.List.{slice_get}
 use Rattle.std.proofs.lemmas.Bool.{cond-true, cond-false, eq-eqb, ne_eqb}
 use Rattle.trace.specs.declared.event.Event.{Event}
 use Rattle.trace.specs.declared.kind.Kind.{Kind}
-use Rattle.trace.specs.declared.kind.Kind.TheVariants.{Read, Write, Acquire, Release}
+use Rattle.trace.specs.declared.kind.Kind.TheVariants.{Read, Write, Acquire, Release, Spawn, Join}
 use Rattle.trace.specs.Traces.{At, deeper}
-use Rattle.trace.specs.Lookups.{fits_here, latest, reading, of_thread, writes, from_event, previous, last_write, depth_past, freeing, release_of}
+use Rattle.trace.specs.Lookups.{fits_here, latest, reading, of_thread, writes, from_event, previous, last_write, depth_past, freeing, release_of, spawns, or_found}
 
 module _ (fits : Event → Bool) (t : List Event) where
   -- the latest before the next position is k, if its event fits, and else the latest before k
@@ -48,8 +48,14 @@ module _ {F : Type 0} {g : Mut F (Bor ℕ × Unit {0}) Bool} (f : F) (fits : Eve
   finds_latest n s r u from found = downwards s r u (ap (λ (v : Range ℕ). v.start) from) found ∙ ap (λ (v : Range ℕ). latest fits t v.end) from
 
 -- where a search starts: from the event at a position, which for a last write is a read
-pub previous_search : (t : List Event) (k : ℕ) (e : Event) → Some e ≡ slice_get t k → latest (of_thread e.thread) t k ≡ previous t k
-previous_search t k e i = ap (from_event (λ f. latest (of_thread f.thread) t k)) i
+pub previous_search : (t : List Event) (k : ℕ) (e : Event) → Some e ≡ slice_get t k
+    → or_found (latest (of_thread e.thread) t k) (latest (spawns e.thread) t k) ≡ previous t k
+previous_search t k e i = ap (from_event (λ f. or_found (latest (of_thread f.thread) t k) (latest (spawns f.thread) t k))) i
+
+-- where a second lookup is made only if the first finds nothing, the first of the two that finds something tells
+pub found_either : (o p r : Option ℕ) → MatchOption o (r ≡ p) (λ w. r ≡ Some w) → r ≡ or_found o p
+found_either None p r q = q
+found_either (Some x) p r q = q
 
 pub write_search : (t : List Event) (k : ℕ) (e : Event) → At t k e → e.kind ≡ Read → last_write t k ≡ latest (writes e.subject) t k
 write_search t k e i read = rw i (cond-true (reading e.kind) (latest (writes e.subject) t k) None (ap reading read))
@@ -82,6 +88,8 @@ pub deeper_no_more : (k : Kind) (n : ℕ) → deeper k n ≤ n + 1
 deeper_no_more Read n = omega arith
 deeper_no_more Write n = omega arith
 deeper_no_more Acquire n = omega arith
+deeper_no_more Spawn n = omega arith
+deeper_no_more Join n = omega arith
 deeper_no_more Release zero = omega arith
 deeper_no_more Release (suc n) = omega arith
 

@@ -9,6 +9,7 @@ pub mod ReadParts
 pub mod LockParts
 pub mod ClashParts
 pub mod EarlierParts
+pub mod ThreadParts
 pub mod RuleParts
 pub mod Tests
 pub mod RuleTests

@@ -6,7 +6,7 @@ use Rattle.std.proofs.lemmas.List.Sums.{fold_push}
 use Rattle.trace.specs.declared.event.Event.{Event}
 use Rattle.trace.specs.declared.hold.Hold.{Hold}
 use Rattle.trace.specs.declared.kind.Kind.{Kind}
-use Rattle.trace.specs.declared.kind.Kind.TheVariants.{Read, Write, Acquire, Release}
+use Rattle.trace.specs.declared.kind.Kind.TheVariants.{Read, Write, Acquire, Release, Spawn, Join}
 use Rattle.trace.specs.Limits.{locks}
 use Rattle.trace.specs.Traces.{At, Standing, at_start, entered, left, turn, after_event, after, standing_after, Admits, Outer, ReleaseOf, deeper}
 use Rattle.trace.specs.Depths.{depth_in}
@@ -27,6 +27,8 @@ is_acquiring Acquire h = refl
 is_acquiring Read h = absurd (grind arith)
 is_acquiring Write h = absurd (grind arith)
 is_acquiring Release h = absurd (grind arith)
+is_acquiring Spawn h = absurd (grind arith)
+is_acquiring Join h = absurd (grind arith)
 
 module _ (e : Event) (l : ℕ) where
   -- the test of an event tells whether it is an acquire of the lock
@@ -58,6 +60,8 @@ module _ (l : ℕ) where
           of_kind Write = refl
           of_kind Acquire = rw (ne_eqb l e.subject (λ q. n (sym q))) refl
           of_kind Release = rw (ne_eqb l e.subject (λ q. n (sym q))) refl
+          of_kind Spawn = refl
+          of_kind Join = refl
 
       here : e.subject ≡ l → hold_depth ((after_event s e).holders l) ≡ lock_depth_with l (hold_depth (s.holders l)) e
       here q = rw (← q, eq-eqb e.subject e.subject refl) (of_kind e.kind)
@@ -79,6 +83,8 @@ module _ (l : ℕ) where
           of_kind Write = refl
           of_kind Acquire = rw (eq-eqb e.subject e.subject refl) (entered_once (s.holders e.subject))
           of_kind Release = rw (eq-eqb e.subject e.subject refl) (freed (s.holders e.subject))
+          of_kind Spawn = refl
+          of_kind Join = refl
 
   held_run : (s : Standing) (es : List Event) → hold_depth ((after s es).holders l) ≡ fold (lock_depth_with l) (hold_depth (s.holders l)) es
   held_run s [] = refl

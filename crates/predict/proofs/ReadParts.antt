@@ -6,7 +6,7 @@ use Rattle.std.proofs.lemmas.Bool.{cases_eq, true≢false, eq-eqb, ne_eqb}
 use Rattle.std.proofs.lemmas.List.{length-set, get_or-set_same, get_or-set_other, get_or-replicate}
 use Rattle.trace.specs.declared.event.Event.{Event}
 use Rattle.trace.specs.declared.kind.Kind.{Kind}
-use Rattle.trace.specs.declared.kind.Kind.TheVariants.{Read, Write, Acquire, Release}
+use Rattle.trace.specs.declared.kind.Kind.TheVariants.{Read, Write, Acquire, Release, Spawn, Join}
 use Rattle.trace.specs.Traces.{LastWrite}
 use Rattle.trace.specs.Lookups.{fits_here, writing, writes, latest}
 use Rattle.trace.specs.Cuts.{In}
@@ -23,6 +23,8 @@ not_writing Write h = absurd (h refl)
 not_writing Read h = refl
 not_writing Acquire h = refl
 not_writing Release h = refl
+not_writing Spawn h = refl
+not_writing Join h = refl
 
 module _ (t : List Event) (bs : List ℕ) where
   -- a position, if it is outside the cut
@@ -62,17 +64,9 @@ module _ (t : List Event) (bs : List ℕ) where
     not_read : (e.kind ≡ Read → ⊥) → Settled k
     not_read other w i l = absurd (other (ap (λ (f : Event). f.kind) (at_same t k e l.read (seen_at t bs seen) l.read_is) ∙ l.is_read))
 
-    -- an event of a lock passes
-    pub pass_lock : (e.kind ≡ Acquire) ⊎ (e.kind ≡ Release) → Pass (k + 1) table
-    pass_lock is = pass_no_write k table (not_write (λ q. clash is q)) (not_read (λ q. clash_read is q)) p
-      where
-        clash : (e.kind ≡ Acquire) ⊎ (e.kind ≡ Release) → e.kind ≡ Write → ⊥
-        clash (inl r) q = grind arith
-        clash (inr r) q = grind arith
-
-        clash_read : (e.kind ≡ Acquire) ⊎ (e.kind ≡ Release) → e.kind ≡ Read → ⊥
-        clash_read (inl r) q = grind arith
-        clash_read (inr r) q = grind arith
+    -- an event that is no access passes
+    pub pass_other : (e.kind ≡ Read → ⊥) → (e.kind ≡ Write → ⊥) → Pass (k + 1) table
+    pass_other no_read no_write = pass_no_write k table (not_write no_write) (not_read no_read) p
 
     -- a read passes that is outside, or has nothing noted
     pub pass_read : e.kind ≡ Read → (b ≡ true → is_some (get_or table e.subject None) ≡ false) → Pass (k + 1) table

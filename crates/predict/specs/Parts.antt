@@ -1,11 +1,12 @@
 -- The parts of the rules.
-use Rattle.std.specs.Prelude.{◌≡◌, ℕ, ◌<◌, ◌≤◌, Bool, true, false, ◌&&◌, cond, List, length, Some, None, Option, ◌==◌, slice_index}
+use Rattle.std.specs.Prelude.{◌≡◌, ℕ, ◌<◌, ◌≤◌, Bool, true, false, ◌&&◌, cond, List, length, Some, None, Option, ◌==◌, slice_index, slice_index_or}
 use Rattle.std.specs.List.{slice_get}
 use Rattle.trace.specs.declared.event.Event.{Event}
 use Rattle.trace.specs.declared.kind.Kind.{Kind}
-use Rattle.trace.specs.declared.kind.Kind.TheVariants.{Read, Write, Acquire, Release}
+use Rattle.trace.specs.declared.kind.Kind.TheVariants.{Read, Write, Acquire, Release, Spawn, Join}
 use Rattle.trace.specs.Limits.{locks}
-use Rattle.trace.specs.Lookups.{fits_here}
+use Rattle.trace.specs.Lookups.{fits_here, of_thread, spawns, or_found}
+use Rattle.trace.specs.Orders.{ReleaseBefore}
 use Rattle.trace.specs.Traces.{Admits, deeper, Outer, LastWrite, ReleaseOf}
 use Rattle.trace.specs.Cuts.{Positions, In, Closed}
 use Rattle.predict.specs.Held.{below, held}
@@ -16,6 +17,8 @@ acquiring Read = false
 acquiring Write = false
 acquiring Acquire = true
 acquiring Release = false
+acquiring Spawn = false
+acquiring Join = false
 
 -- an acquire of the lock l
 abbrev pub acquires : ℕ → Event → Bool
@@ -66,3 +69,35 @@ lock_depth_with l n e = cond (e.subject == l) (deeper e.kind n) n
 abbrev pub lock_depth_past : ℕ → ℕ → Option Event → ℕ
 lock_depth_past l n None = n
 lock_depth_past l n (Some e) = lock_depth_with l n e
+
+-- a cut wants a release that freed its lock, where it has a later outer acquire of the lock
+pub record ReleaseWants (t : List Event) (c : Positions) (w : ℕ) : Type 0 where
+  pub acquire : ℕ
+  pub inside : In acquire c
+  pub before : ReleaseBefore t w acquire
+
+-- whether a kind is Join
+abbrev pub joining : Kind → Bool
+joining Read = false
+joining Write = false
+joining Acquire = false
+joining Release = false
+joining Spawn = false
+joining Join = true
+
+-- what a join wants of a spawn and a latest event of the thread that it awaits
+abbrev pub awaited_of : Kind → Option ℕ → Option ℕ → Option ℕ
+awaited_of kind spawn latest = cond (joining kind) (or_found spawn latest) None
+
+-- what an event wants, where the tables have of each thread a spawn and the latest event, or none
+abbrev pub wanted_of : List (Option ℕ) → List (Option ℕ) → Event → Option ℕ
+wanted_of spawns latest e =
+    or_found (slice_index_or spawns e.thread None)
+    (awaited_of e.kind (slice_index_or spawns e.subject None) (slice_index_or latest e.subject None))
+
+-- what is noted of the thread p where the event e at k is noted, and this was noted before: that it spawns p, and that it is of p
+abbrev pub spawn_noted : ℕ → ℕ → Event → Option ℕ → Option ℕ
+spawn_noted p k e before = cond (spawns p e) (Some k) before
+
+abbrev pub event_noted : ℕ → ℕ → Event → Option ℕ → Option ℕ
+event_noted p k e before = cond (of_thread p e) (Some k) before

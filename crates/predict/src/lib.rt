@@ -9,3 +9,4 @@ mod reads;
 pub mod rule;
 pub mod rules;
 pub mod theorems;
+mod threads;

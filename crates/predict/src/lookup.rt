@@ -1,7 +1,7 @@
 //! Looks for events in a reel.
 ghost use Rattle.std.specs.Prelude.{◌≡◌, ◌<◌};
 ghost use Rattle.trace.specs.Traces.{deeper};
-ghost use Rattle.trace.specs.Lookups.{fits_here, of_thread, writes, depth_past, previous, last_write, release_of};
+ghost use Rattle.trace.specs.Lookups.{fits_here, latest, of_thread, spawns, writes, depth_past, previous, last_write, release_of};
 ghost use Rattle.std.specs.List.{slice_get};
 ghost use Rattle.predict.specs.Held.{held, lacks};
 ghost use Rattle.predict.specs.Parts.{acquires};
@@ -26,6 +26,14 @@ pub fn is_write_at<R: Reel>(reel: &R, position: usize, variable: u16) -> bool
     reel.event(position).is_some_and(|event| event.kind == Kind::Write && event.subject == variable)
 }
 
+/// Whether there is a spawn of the thread at the position.
+fn is_spawn_at<R: Reel>(reel: &R, position: usize, thread: u8) -> bool
+    ensures { let t = R.Reel.events reel.now in result ≡ fits_here (spawns thread) (slice_get t position) }
+{
+    reel.event(position).is_some_and(|event| event.kind == Kind::Spawn
+        && event.subject == u16::from(thread))
+}
+
 /// How deep a lock is held after an event of the kind on it.
 pub(crate) fn deeper(kind: Kind, depth: usize) -> usize
     requires { depth < usize.MAX }
@@ -34,7 +42,7 @@ pub(crate) fn deeper(kind: Kind, depth: usize) -> usize
     match kind {
         Kind::Acquire => depth + 1,
         Kind::Release => depth.saturating_sub(1),
-        Kind::Read | Kind::Write => depth,
+        Kind::Read | Kind::Write | Kind::Spawn | Kind::Join => depth,
     }
 }
 
@@ -51,14 +59,30 @@ fn depth_past<R: Reel>(reel: &R, position: usize, acquire: &Event, depth: usize)
     }
 }
 
-/// The last position before this one where its thread has an event.
+/// The last position before this one where the thread has an event.
+fn latest_of_thread<R: Reel>(reel: &R, position: usize, thread: u8) -> Option<usize>
+    ensures { let t = R.Reel.events reel.now in result ≡ latest (of_thread thread) t position }
+{
+    (0..position)
+        .rev()
+        .find(|earlier| is_of_thread_at(reel, *earlier, thread))
+}
+
+/// The last position before this one where the thread is spawned.
+fn latest_spawn<R: Reel>(reel: &R, position: usize, thread: u8) -> Option<usize>
+    ensures { let t = R.Reel.events reel.now in result ≡ latest (spawns thread) t position }
+{
+    (0..position)
+        .rev()
+        .find(|earlier| is_spawn_at(reel, *earlier, thread))
+}
+
+/// The previous event: the last before this position of its thread, and where there is none, the last where its thread is spawned.
 pub fn previous<R: Reel>(reel: &R, position: usize) -> Option<usize>
     ensures { let t = R.Reel.events reel.now in result ≡ previous t position }
 {
-    let event = reel.event(position)?;
-    (0..position)
-        .rev()
-        .find(|earlier| is_of_thread_at(reel, *earlier, event.thread))
+    let thread = reel.event(position)?.thread;
+    latest_of_thread(reel, position, thread).or_else(|| latest_spawn(reel, position, thread))
 }
 
 /// The last position before that of a read where its variable is written.

@@ -6,9 +6,10 @@ use crate::cut::Cut;
 use crate::locks::{missing_earlier_release, missing_release};
 use crate::reads::missing_write;
 use crate::rule::Rule;
+use crate::threads::missing_thread_event;
 use reel::Reel;
 
-/// A read wants its last write, and of two acquires of a lock the first wants its release.
+/// An event wants the spawn of its thread, a join the spawn and the last event of the thread that it awaits, a read its last write, and of two acquires of a lock the first wants its release.
 #[derive(Clone, Copy)]
 pub struct SyncRule {}
 
@@ -18,11 +19,14 @@ impl<R: Reel> Rule<R> for SyncRule {
     ghost lawful = { sync_laws };
 
     fn missing(&self, reel: &R, cut: &Cut) -> Option<usize> {
-        missing_write(reel, cut).or_else(|| missing_release(reel, cut))
+        missing_thread_event(reel, cut)
+            .or_else(|| missing_write(reel, cut))
+            .or_else(|| missing_release(reel, cut))
     }
 }
 
-/// An acquire wants each earlier release of its lock.
+/// An event wants the spawn of its thread, a join the spawn and the last event of the thread that it awaits, and an outer acquire each earlier
+/// release that freed its lock.
 #[derive(Clone, Copy)]
 pub struct HappensBeforeRule {}
 
@@ -32,11 +36,11 @@ impl<R: Reel> Rule<R> for HappensBeforeRule {
     ghost lawful = { happens_before_laws };
 
     fn missing(&self, reel: &R, cut: &Cut) -> Option<usize> {
-        missing_earlier_release(reel, cut)
+        missing_thread_event(reel, cut).or_else(|| missing_earlier_release(reel, cut))
     }
 }
 
-/// An acquire wants each earlier release of its lock, and a read its last write.
+/// The same, and a read wants its last write.
 #[derive(Clone, Copy)]
 pub struct SchedulableRule {}
 

@@ -10,12 +10,12 @@ use Rattle.trace.proofs.Rules.{sync_laws}
 use Rattle.trace.proofs.Seeds.{seeds_of}
 use Rattle.predict.specs.Held.{held, Closes}
 use Rattle.predict.proofs.Existence.{closes}
-use Rattle.predict.proofs.RuleTests.{sync_decided}
+use Rattle.predict.proofs.RuleTests.{sync_test, sync_decided}
 use Rattle.predict.proofs.Tests.{is_earlier}
 use Rattle.session.proofs.Asked.{previous_is}
 use Rattle.session.proofs.Racing.{found_race, found_none}
 use Rattle.cases.specs.Examples.{sections_between, writes_locked, three_accesses}
-use Rattle.cases.proofs.Asking.{sync_test, sync_closure}
+use Rattle.cases.proofs.Asking.{sync_closure}
 use Rattle.cases.proofs.Closing.{with_earlier, closure_by}
 use Rattle.cases.proofs.Judging.{sections_admitted, locked_admitted}
 use Rattle.cases.proofs.Sweeping.{three_admitted}

@@ -1,22 +1,23 @@
 -- The examples of events that may come next.
-use Rattle.std.proofs.Common.{◌≡◌, ℕ, ◌<◌, [], ◌∷◌, sym, refl, ◌∙◌, subst, arith}
+use Rattle.std.proofs.Common.{◌≡◌, ℕ, zero, suc, ◌<◌, [], ◌∷◌, sym, refl, ◌∙◌, subst, arith, lit<}
 use mathlib.Core.List.Memᴰ
 use mathlib.Core.List.{Memᴰ}
 use Rattle.std.proofs.lemmas.Option.{none-some, same_Some}
 use Rattle.std.proofs.lemmas.Bool.{false≢true}
 use Rattle.trace.specs.declared.event.Event.{Event}
-use Rattle.trace.specs.declared.kind.Kind.TheVariants.{Write, Acquire}
+use Rattle.trace.specs.declared.kind.Kind.TheVariants.{Read, Write, Acquire}
 use Rattle.trace.specs.Traces.{At, Outer, LastWrite}
 use Rattle.trace.specs.Reorderings.{LatestWrite}
-use Rattle.trace.specs.Locks.{Tells}
+use Rattle.trace.specs.Checks.{Tells}
 use Rattle.trace.proofs.Lookups.{last_write_found}
 use Rattle.predict.proofs.Tests.{is_earlier}
-use Rattle.reorder.specs.Comes.{Agrees, Comes}
+use Rattle.reorder.specs.Comes.{HasSpawns, HasEvents, Agrees, Comes}
+use Rattle.reorder.proofs.Agreeing.{not_join}
 use Rattle.reorder.proofs.Coming.{comes_at}
 use Rattle.reorder.proofs.Members.{no_place}
-use Rattle.cases.specs.Examples.{event, sections_between, writes_locked, read_between}
+use Rattle.cases.specs.Examples.{event, sections_between, writes_locked, read_between, worker_awaited}
 use Rattle.relations.specs.Reorderings.{write_within}
-use Rattle.relations.specs.Next.{AcquiresAgree, ReadAgrees, AcquireComes, TableAnswered}
+use Rattle.relations.specs.Next.{AcquiresAgree, ThreadHad, ReadAgrees, AcquireComes, TableAnswered}
 use Rattle.relations.specs.Traces.{held_by}
 use Rattle.relations.proofs.Tracing.{held_tells}
 use Rattle.relations.proofs.Reordering.{section_reordering}
@@ -31,6 +32,27 @@ acquires_agree = (λ a m f o. before a m, λ h. let b = h 3 (Memᴰ.head refl) (
     before : (a : ℕ) → Memᴰ a (0 ∷ 2 ∷ []) → {A : Type 0} → A → a < 3
     before a (Memᴰ.head e) i = omega arith
     before a (Memᴰ.tail m) i = let e = Memᴰ.eq_of_singleton m in omega arith
+
+-- the list has the spawn of thread 1, and its write
+spawns_had : HasSpawns worker_awaited (1 ∷ []) 2 1
+spawns_had zero b h = absurd (false≢true h)
+spawns_had (suc zero) b h = Memᴰ.head refl
+spawns_had (suc (suc m)) b h = absurd (omega arith)
+
+events_had : HasEvents worker_awaited (2 ∷ []) 4 1
+events_had zero b h = absurd (false≢true h)
+events_had (suc zero) b h = absurd (false≢true h)
+events_had (suc (suc zero)) b h = Memᴰ.head refl
+events_had (suc (suc (suc zero))) b h = absurd (false≢true h)
+events_had (suc (suc (suc (suc m)))) b h = absurd (omega arith)
+
+pub thread_had : ThreadHad
+thread_had = (
+  spawns_had,
+  λ h. let e = Memᴰ.eq_of_singleton (h 1 (lit< tt) refl) in omega arith,
+  events_had,
+  λ h. Memᴰ.not-nil (h 2 (lit< tt) refl),
+)
 
 -- the write to variable 1 is the only one in the list
 module _ (w : ℕ) where
@@ -58,7 +80,12 @@ module _ (w : ℕ) where
 
 pub read_agrees : ReadAgrees
 read_agrees = (
-  record { reads = λ r w. (latest_one w, one_latest w); acquires = λ o. let a = o.is_acquire in absurd (grind arith) },
+  record {
+    reads = λ r w. (latest_one w, one_latest w);
+    acquires = λ o. let a = o.is_acquire in absurd (grind arith);
+    awaited_spawns = λ s h. absurd (not_join read_between 2 (event Read 1 1 tt tt) Read refl refl h.join h.join_is h.is_join (λ q. absurd (grind arith)));
+    awaited_events = λ d h. absurd (not_join read_between 2 (event Read 1 1 tt tt) Read refl refl h.join h.join_is h.is_join (λ q. absurd (grind arith)));
+  },
   λ h. let l = (h.reads refl 1).1 (((last_write_found read_between 2).0 1).0 refl) in no_place l.front l.back 1 l.stands,
 )
 
@@ -86,8 +113,8 @@ table_answered = (
   record { right = (λ some. absurd (false≢true some), λ comes. absurd (release_not_first comes)); told = λ table same. absurd (none-some table same) },
   λ h. false≢true (h.right.1 first_comes),
   λ table h. swap_not_next (h.right.0 refl),
-  λ table free h. none-some _ (sym (free 0) ∙ h.told table refl 0),
+  λ table free h. none-some _ (sym (free.holders 0) ∙ (h.told table refl).holders 0),
 )
   where
     tells : Tells (held_by 1) (event Acquire 1 0 tt tt ∷ [])
-    tells = held_tells (event Acquire 1 0 tt tt) refl refl
+    tells = held_tells 1 tt

@@ -7,7 +7,7 @@ use Rattle.trace.specs.Records.{record_of}
 use Rattle.trace.proofs.Records.{record_means}
 use Rattle.cases.specs.Examples.{event}
 use Rattle.relations.specs.Entries.{EventTaken, FullRefuses, RecordedAsRead, StandsUpToDate}
-use Rattle.relations.proofs.Tracing.{free_tells, held_tells, table_stays}
+use Rattle.relations.proofs.Tracing.{first_tells, held_tells, table_stays}
 
 pub event_taken : EventTaken
 event_taken = (
@@ -52,7 +52,7 @@ recorded_as_read = (
 
 pub stands_up_to_date : StandsUpToDate
 stands_up_to_date = (
-  record { admitted = tt; tells = free_tells },
-  record { admitted = (refl, tt); tells = held_tells (event Acquire 0 0 tt tt) refl refl },
+  record { admitted = tt; tells = first_tells },
+  record { admitted = (refl, tt); tells = held_tells 0 tt },
   λ table a b. table_stays table a.tells b.tells,
 )

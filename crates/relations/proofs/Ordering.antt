@@ -2,11 +2,11 @@
 use Rattle.std.proofs.Common.{ℕ, List, [], ◌∷◌, refl, ◌∙◌, subst, arith, lit<}
 use Rattle.std.proofs.lemmas.Bool.{false≢true}
 use Rattle.trace.specs.declared.event.Event.{Event}
-use Rattle.trace.specs.declared.kind.Kind.TheVariants.{Acquire, Release}
+use Rattle.trace.specs.declared.kind.Kind.TheVariants.{Write, Acquire, Release, Spawn, Join}
 use Rattle.trace.specs.Traces.{Admits}
 use Rattle.trace.specs.Cuts.{Positions, In, Closure, HappensBeforeWants, SchedulableWants}
 use Rattle.trace.specs.Orders.{HappensBefore, SchedulableHappensBefore}
-use Rattle.trace.specs.Orders.HappensBefore.{in_thread, released, chain}
+use Rattle.trace.specs.Orders.HappensBefore.{in_thread, spawned, event_awaited, released, chain}
 use Rattle.trace.specs.Orders.SchedulableHappensBefore.{in_thread as scheduled_in_thread, read_from, chain as scheduled_chain}
 use Rattle.trace.proofs.Closures.{closure_unique}
 use Rattle.trace.proofs.Lookups.{last_write_found}
@@ -14,14 +14,13 @@ use Rattle.trace.proofs.Orders.{happens_before_seed, schedulable_before_seed}
 use Rattle.trace.proofs.Rules.{happens_before_laws, schedulable_laws}
 use Rattle.predict.specs.Held.{SeedsWithin}
 use Rattle.predict.proofs.Existence.{closes}
-use Rattle.predict.proofs.RuleTests.{happens_before_decided, schedulable_decided}
+use Rattle.predict.proofs.RuleTests.{happens_before_test, schedulable_test, happens_before_decided, schedulable_decided}
 use Rattle.predict.proofs.Tests.{is_earlier}
 use Rattle.session.proofs.Asked.{previous_is, previous_only}
-use Rattle.cases.specs.Examples.{event, sections_between, read_between, through_section}
-use Rattle.cases.proofs.Asking.{happens_before_test, schedulable_test}
+use Rattle.cases.specs.Examples.{event, sections_between, read_between, through_section, worker_awaited}
 use Rattle.cases.proofs.Closing.{with_earlier, closure_by}
-use Rattle.cases.proofs.Judging.{read_admitted, chain_admitted}
-use Rattle.relations.specs.Orders.{ReleaseFirst, SectionsInOrder, NotBeforeByRead, ReadInOrder, NotScheduledByOther}
+use Rattle.cases.proofs.Judging.{read_admitted, chain_admitted, worker_admitted}
+use Rattle.relations.specs.Orders.{ReleaseFirst, SectionsInOrder, NotBeforeByRead, WorkerInOrder, ReadInOrder, NotScheduledByOther}
 
 pub release_first : ReleaseFirst
 release_first = (
@@ -64,6 +63,33 @@ sections_in_order = (happens_in, happens_out)
 
 pub not_before_by_read : NotBeforeByRead
 not_before_by_read = (happens_out, λ n. n happens_in)
+
+worker_out : HappensBefore worker_awaited 2 3 → ⊥
+worker_out h = false≢true (in_closure worker_awaited 3 (with_earlier worker_awaited (3 ∷ [])) worker_admitted
+    (closure_by HappensBeforeWants happens_before_laws happens_before_test happens_before_decided worker_awaited worker_admitted (3 ∷ []) (3 ∷ []) refl) 2 h)
+
+pub worker_in_order : WorkerInOrder
+worker_in_order = (
+  spawned (record {
+    before = lit< tt;
+    spawn = event Spawn 0 1 tt tt;
+    event = event Write 1 0 tt tt;
+    spawn_is = refl;
+    event_is = refl;
+    is_spawn = refl;
+    names = refl;
+  }),
+  event_awaited (record {
+    before = lit< tt;
+    event = event Write 1 0 tt tt;
+    join = event Join 0 1 tt tt;
+    event_is = refl;
+    join_is = refl;
+    is_join = refl;
+    names = refl;
+  }),
+  worker_out,
+)
 
 scheduled_in : SchedulableHappensBefore read_between 0 2
 scheduled_in =

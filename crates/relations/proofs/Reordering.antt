@@ -1,13 +1,14 @@
 -- The examples of reorderings.
-use Rattle.std.proofs.Common.{◌≡◌, ℕ, List, [], ◌∷◌, ◌++◌, Some, None, sym, refl, subst, ⊎_elim, arith}
+use Rattle.std.proofs.Common.{◌≡◌, ℕ, zero, suc, Bool, true, false, not, ◌&&◌, List, [], ◌∷◌, ◌++◌, Some, None, sym, refl, ap, ◌∙◌, subst, ⊎_elim, arith, lit<}
 use mathlib.Core.List.Memᴰ
 use mathlib.Core.List.{Memᴰ}
 use Rattle.std.proofs.lemmas.Option.{none-some}
-use Rattle.std.proofs.lemmas.Bool.{false≢true, cases_lt}
+use Rattle.std.proofs.lemmas.Bool.{false≢true, cases_lt, and_parts, not-true}
 use Rattle.trace.specs.declared.event.Event.{Event}
-use Rattle.trace.specs.declared.kind.Kind.TheVariants.{Read, Write, Acquire, Release}
+use Rattle.trace.specs.declared.kind.Kind.{Kind}
+use Rattle.trace.specs.declared.kind.Kind.TheVariants.{Read, Write, Acquire, Release, Spawn, Join}
 use Rattle.trace.specs.Lookups.{previous}
-use Rattle.trace.specs.Traces.{At, EarlierInThread, Outer}
+use Rattle.trace.specs.Traces.{At, EarlierInThread, SpawnOf, AwaitedSpawn, AwaitedEvent, Outer}
 use Rattle.trace.specs.Reorderings.{Correct, SyncPreserving, Leaves}
 use Rattle.trace.proofs.Events.{earlier_between}
 use Rattle.trace.proofs.Lookups.{previous_from, last_write_found}
@@ -15,11 +16,11 @@ use Rattle.predict.proofs.Tests.{is_earlier}
 use Rattle.reorder.specs.Comes.{Reorders}
 use Rattle.reorder.proofs.Members.{no_place}
 use Rattle.session.specs.Questions.Answers.{answered}
-use Rattle.session.proofs.Asked.{previous_is, previous_only, previous_none}
-use Rattle.cases.specs.Examples.{event, sections_between, read_between}
+use Rattle.session.proofs.Asked.{previous_only, previous_none}
+use Rattle.cases.specs.Examples.{event, sections_between, read_between, worker_awaited}
 use Rattle.cases.proofs.Asking.{judges_none, witness_leaves}
-use Rattle.cases.proofs.Judging.{sections_admitted}
-use Rattle.relations.specs.Reorderings.{write_within, AscendingOnly, LatestBehind, InTraceOnly, OnceOnly, ThreadOrderKept, LocksKept, ReadsKept, EnabledAfterAll, SectionsSwapped, SwapRefused, SectionReorders}
+use Rattle.cases.proofs.Judging.{sections_admitted, worker_admitted}
+use Rattle.relations.specs.Reorderings.{write_within, AscendingOnly, LatestBehind, InTraceOnly, OnceOnly, ThreadOrderKept, LocksKept, ReadsKept, SpawnsKept, AwaitedKept, EnabledOnceSpawned, EnabledAfterAll, SectionsSwapped, SwapRefused, SectionReorders}
 
 pub ascending_only : AscendingOnly
 ascending_only = (
@@ -68,16 +69,47 @@ reads_kept c =
 module _ (t : List Event) where
   -- the first event of a thread has none before it
   none_before : (k d : ℕ) → previous t k ≡ None → EarlierInThread t d k → ⊥
-  none_before k d is h = let (p, r, b) = previous_from t d k h in previous_none t k (sym is) p r
+  none_before k d is h = let (p, r, earlier, b) = previous_from t d k h in previous_none t k (sym is) p r
 
   -- all before an event are in a list that has its previous event and all before that
   all_before : (xs : List ℕ) (k p d : ℕ) → previous t k ≡ Some p → Memᴰ p xs → (EarlierInThread t d p → Memᴰ d xs) → EarlierInThread t d k → Memᴰ d xs
   all_before xs k p d is m rest h =
-      let (o, r, b) = previous_from t d k h in
+      let (o, r, earlier, b) = previous_from t d k h in
       let e : o ≡ p = previous_only t k p (sym is) o r in
-      ⊎_elim (λ l. rest (earlier_between t d p k h (previous_is t k p (sym is)).earlier l))
+      ⊎_elim (λ l. rest (earlier_between t d p k h (subst (λ n. EarlierInThread t n k) e earlier) l))
       (λ l. let same : d ≡ p = omega arith in subst (λ n. Memᴰ n xs) (sym same) m)
       (cases_lt d p)
+
+-- the kinds of spawns and joins
+abbrev on_thread : Kind → Bool
+on_thread Read = false
+on_thread Write = false
+on_thread Acquire = false
+on_thread Release = false
+on_thread Spawn = true
+on_thread Join = true
+
+-- no event of a trace is of these
+abbrev none_on_threads : List Event → Bool
+none_on_threads [] = true
+none_on_threads (e ∷ es) = not (on_thread e.kind) && none_on_threads es
+
+off_threads : (t : List Event) (k : ℕ) (e : Event) → none_on_threads t ≡ true → At t k e → on_thread e.kind ≡ false
+off_threads [] k e none i = absurd (grind arith)
+off_threads (f ∷ es) zero e none i =
+    let same : f ≡ e = grind arith in
+    subst (λ (g : Event). on_thread g.kind ≡ false) same (not-true (on_thread f.kind) (and_parts (not (on_thread f.kind)) (none_on_threads es) none).0)
+off_threads (f ∷ es) (suc k) e none i = off_threads es k e (and_parts (not (on_thread f.kind)) (none_on_threads es) none).1 i
+
+module _ (t : List Event) (none : none_on_threads t ≡ true) where
+  none_spawned : {s k : ℕ} → SpawnOf t s k → ⊥
+  none_spawned {s} {k} h = false≢true (sym (off_threads t s h.spawn none h.spawn_is) ∙ ap on_thread h.is_spawn)
+
+  no_spawn_awaited : {s k : ℕ} → AwaitedSpawn t s k → ⊥
+  no_spawn_awaited {s} {k} h = false≢true (sym (off_threads t k h.join none h.join_is) ∙ ap on_thread h.is_join)
+
+  no_event_awaited : {d k : ℕ} → AwaitedEvent t d k → ⊥
+  no_event_awaited {d} {k} h = false≢true (sym (off_threads t k h.join none h.join_is) ∙ ap on_thread h.is_join)
 
 -- the section of the second thread comes before its write
 section_before : (t : List Event) (xs : List ℕ) (d : ℕ) → previous t 5 ≡ Some 4 → previous t 4 ≡ Some 3 → previous t 3 ≡ None → Memᴰ 3 xs → Memᴰ 4 xs
@@ -92,11 +124,52 @@ not_in_two k a b m = ⊎_elim a (λ n. b (Memᴰ.eq_of_singleton n)) (Memᴰ.cas
 in_three : (k : ℕ) → (k ≡ 3 → ⊥) → (k ≡ 4 → ⊥) → (k ≡ 0 → ⊥) → Memᴰ k (3 ∷ 4 ∷ 0 ∷ []) → ⊥
 in_three k a b c m = ⊎_elim a (λ n. ⊎_elim b (λ o. c (Memᴰ.eq_of_singleton o)) (Memᴰ.cases_cons n)) (Memᴰ.cases_cons m)
 
+-- the spawn of the worker, and its write, which is awaited
+worker_spawn : SpawnOf worker_awaited 1 2
+worker_spawn = record {
+  before = lit< tt;
+  spawn = event Spawn 0 1 tt tt;
+  event = event Write 1 0 tt tt;
+  spawn_is = refl;
+  event_is = refl;
+  is_spawn = refl;
+  names = refl;
+}
+
+worker_write : AwaitedEvent worker_awaited 2 4
+worker_write = record {
+  before = lit< tt;
+  event = event Write 1 0 tt tt;
+  join = event Join 0 1 tt tt;
+  event_is = refl;
+  join_is = refl;
+  is_join = refl;
+  names = refl;
+}
+
+pub spawns_kept : SpawnsKept
+spawns_kept c = Memᴰ.not-nil (c.spawns [] [] 1 2 refl worker_spawn)
+
+pub awaited_kept : AwaitedKept
+awaited_kept c = not_before_join (c.awaited_events (0 ∷ 1 ∷ 3 ∷ []) [] 2 4 refl worker_write)
+  where
+    not_before_join : Memᴰ {A = ℕ} 2 (0 ∷ 1 ∷ 3 ∷ []) → ⊥
+    not_before_join (Memᴰ.head e) = omega arith
+    not_before_join (Memᴰ.tail (Memᴰ.head e)) = omega arith
+    not_before_join (Memᴰ.tail (Memᴰ.tail m)) = let e = Memᴰ.eq_of_singleton m in omega arith
+
+pub enabled_once_spawned : EnabledOnceSpawned
+enabled_once_spawned = (
+  (witness_leaves worker_awaited 2 3 worker_admitted refl (1 ∷ []) refl refl).enabled 2 (Memᴰ.head refl),
+  λ h. let e = Memᴰ.eq_of_singleton (h.spawned 1 worker_spawn) in omega arith,
+)
+
 pub enabled_after_all : EnabledAfterAll
 enabled_after_all = (
   record {
     outside = not_in_two 5 (λ e. omega arith) (λ e. omega arith);
     ready = λ d. section_before sections_between (3 ∷ 4 ∷ []) d refl refl refl (Memᴰ.head refl) (Memᴰ.tail (Memᴰ.head refl));
+    spawned = λ s h. absurd (none_spawned sections_between refl h);
   },
   λ h. let e = Memᴰ.eq_of_singleton (h.ready 4 (is_earlier sections_between 4 5 refl)) in omega arith,
   λ h. h.outside (Memᴰ.tail (Memᴰ.tail (Memᴰ.head refl))),
@@ -148,6 +221,9 @@ swap_correct = record {
       (λ h. absurd (none_before write_within 3 d refl h))
       (all_before write_within (3 ∷ []) 4 3 d refl (Memᴰ.head refl) (λ h. absurd (none_before write_within 3 d refl h)))
       (λ h. absurd (none_before write_within 0 d refl h)) xs ys k e;
+  spawns = λ xs ys s k e h. absurd (none_spawned write_within refl h);
+  awaited_spawns = λ xs ys s k e h. absurd (no_spawn_awaited write_within refl h);
+  awaited_events = λ xs ys d k e h. absurd (no_event_awaited write_within refl h);
   admitted = (refl, (refl, (refl, tt)));
   reads = λ xs ys k e s is r. absurd (no_read k (subst (Memᴰ k) (sym s) (Memᴰ.append_right xs (Memᴰ.head refl))) e is r);
 }
@@ -164,10 +240,12 @@ sections_swapped = (
     outside = in_three 1 (λ e. omega arith) (λ e. omega arith) (λ e. omega arith);
     ready = λ d. all_before write_within (3 ∷ 4 ∷ 0 ∷ []) 1 0 d refl (Memᴰ.tail (Memᴰ.tail (Memᴰ.head refl)))
         (λ h. absurd (none_before write_within 0 d refl h));
+    spawned = λ s h. absurd (none_spawned write_within refl h);
   },
   record {
     outside = in_three 5 (λ e. omega arith) (λ e. omega arith) (λ e. omega arith);
     ready = λ d. section_before write_within (3 ∷ 4 ∷ 0 ∷ []) d refl refl refl (Memᴰ.head refl) (Memᴰ.tail (Memᴰ.head refl));
+    spawned = λ s h. absurd (none_spawned write_within refl h);
   },
   not_in_order,
 )

@@ -1,21 +1,33 @@
 -- The examples of the trace check, the lookups, the table and the reel.
-use Rattle.std.proofs.Common.{◌≡◌, ℕ, [], ◌∷◌, slice_index_or, Some, None, Option, Ok, Result, sym, refl, ap, ◌∙◌, arith}
+use Rattle.std.proofs.Common.{◌≡◌, ℕ, T, true, false, cond, eqb, [], ◌∷◌, replicate, slice_index_or, Some, None, Option, Ok, Result, sym, refl, ap, ◌∙◌, arith, nat_lt, lit<}
 use Rattle.std.proofs.lemmas.Option.{none-some}
 use Rattle.trace.specs.declared.kind.Kind.TheVariants.{Acquire}
 use Rattle.trace.specs.declared.event.Event.{Event}
-use Rattle.trace.specs.declared.locks.LockTable.{LockTable}
+use Rattle.trace.specs.declared.check.TraceCheck.{TraceCheck}
 use Rattle.trace.specs.declared.locks.TraceFault.{TraceFault}
 use Rattle.trace.specs.declared.locks.TraceFault.TheVariants.{AlreadyHeld}
-use Rattle.trace.specs.Traces.{At, depth_at, ReleaseOf}
+use Rattle.trace.specs.Traces.{At, turn, begin, name, or_else, ended_refusal, depth_at, ReleaseOf}
 use Rattle.trace.specs.Lookups.{Finds}
-use Rattle.trace.specs.Locks.{Tells, Turned}
+use Rattle.trace.specs.Checks.{Tells, Turned}
+use Rattle.trace.specs.Limits.{locks, threads}
+use Rattle.trace.specs.Threads.{unknown, lives, life_refusal}
+use Rattle.trace.specs.Locks.{holders}
 use Rattle.trace.proofs.Lookups.{previous_found, last_write_found, release_found}
-use Rattle.trace.proofs.LockTables.{starts_empty, turned_acquire, refused}
-use Rattle.cases.specs.Examples.{event, sections_between, read_between, inner_section}
-use Rattle.relations.specs.Traces.{free_table, held_by, NoSecondHolder, PreviousLatest, LastWriteOfVariable, ReleaseOfThread, ReleaseFrees, TableChanges, HeldTurnedAway, TakenWithRoom}
+use Rattle.trace.specs.declared.life.Life.{Life}
+use Rattle.trace.proofs.Checks.{turned_both, refused}
+use Rattle.trace.proofs.LockTables.{starts_empty, put_entry}
+use Rattle.trace.proofs.ThreadTables.{starts_unknown}
+use Rattle.cases.specs.Examples.{event, sections_between, read_between, inner_section, worker_awaited}
+use Rattle.relations.specs.Traces.{at_first, held_by, NoSecondHolder, NoneJoined, SpawnedOnce, PreviousLatest, PreviousSpawn, LastWriteOfVariable, ReleaseOfThread, ReleaseFrees, TableChanges, HeldTurnedAway, TakenWithRoom}
 
 pub no_second_holder : NoSecondHolder
 no_second_holder h = none-some 5 (sym h.1.0)
+
+pub none_joined : NoneJoined
+none_joined h = none-some 15 (sym h.1.1.0)
+
+pub spawned_once : SpawnedOnce
+spawned_once h = none-some 14 (sym h.1.0)
 
 -- what a lookup finds stands in the relation, and no other position does
 found_alone : (o : Option ℕ) (R : ℕ → Type 0) → Finds o R → (p k : ℕ) → o ≡ Some p → (p ≡ k → ⊥) → R p × (R k → ⊥)
@@ -24,6 +36,9 @@ found_alone o R finds p k is other =
 
 pub previous_latest : PreviousLatest
 previous_latest = found_alone _ _ (previous_found sections_between 5) 4 3 refl (λ e. omega arith)
+
+pub previous_spawn : PreviousSpawn
+previous_spawn = found_alone _ _ (previous_found worker_awaited 2) 1 0 refl (λ e. omega arith)
 
 pub last_write_of_variable : LastWriteOfVariable
 last_write_of_variable = found_alone _ _ (last_write_found read_between 2) 1 0 refl (λ e. omega arith)
@@ -46,31 +61,43 @@ release_frees = (
     inner_one : At inner_section 1 (event Acquire 0 0 tt tt) → depth_at inner_section 1 (event Acquire 0 0 tt tt) ≡ 0 → ⊥
     inner_one i d = omega arith
 
--- the free table says of each lock that no thread holds it
-pub free_tells : Tells free_table []
-free_tells = starts_empty
+-- at first no thread holds a lock, and nothing is known of any
+pub first_tells : Tells at_first []
+first_tells = record { holders = starts_empty; lives = starts_unknown }
 
 -- a free lock is acquired
-acquired : (e : Event) → e.kind ≡ Acquire → e.subject ≡ 0 → let r : Result (Unit {0}) TraceFault = Ok tt in Turned free_table e r (held_by e.thread)
-acquired e kind lock = turned_acquire free_table e (held_by e.thread) None (rw lock refl) (record { thread = e.thread; depth = 1 }) kind refl refl (rw lock refl)
+module _ (thread : ℕ) (known : T (nat_lt thread threads)) where
+  acquired : let r : Result (Unit {0}) TraceFault = Ok tt in Turned at_first (event Acquire thread 0 known tt) r (held_by thread)
+  acquired = turned_both at_first (event Acquire thread 0 known tt) (held_by thread) alive refl holds begins
+    where
+      alive : None ≡ life_refusal (lives at_first.threads) (event Acquire thread 0 known tt)
+      alive = sym (ap (λ (l : Life). or_else (ended_refusal l) None) (starts_unknown thread))
 
-pub held_tells : (e : Event) → e.kind ≡ Acquire → e.subject ≡ 0 → Tells (held_by e.thread) (e ∷ [])
-held_tells e kind lock = (acquired e kind lock).tells [] free_tells
+      holds : (l : ℕ) → holders (held_by thread).locks l ≡ turn Acquire thread 0 (holders at_first.locks) l
+      holds l = put_entry (replicate locks None) 0 (Some (record { thread = thread; depth = 1 })) None l (lit< tt)
 
--- no table tells of both
-pub table_stays : (table : LockTable) → Tells table [] → Tells table (event Acquire 0 0 tt tt ∷ []) → ⊥
-table_stays table a b = none-some _ (sym (a 0) ∙ b 0)
+      begins : (p : ℕ) → lives (held_by thread).threads p ≡ name Acquire 0 (begin thread (lives at_first.threads)) p
+      begins p =
+          put_entry (replicate threads unknown) thread (record { begun = true; named = false; joined = false }) unknown p (lit< known)
+          ∙ ap (λ (l : Life). cond (eqb p thread) (record l { begun = true }) (lives at_first.threads p)) (sym (starts_unknown thread))
+
+  pub held_tells : Tells (held_by thread) (event Acquire thread 0 known tt ∷ [])
+  held_tells = acquired.tells [] first_tells
+
+-- none tells of both
+pub table_stays : (check : TraceCheck) → Tells check [] → Tells check (event Acquire 0 0 tt tt ∷ []) → ⊥
+table_stays check a b = none-some _ (sym (a.holders 0) ∙ b.holders 0)
 
 pub table_changes : TableChanges
-table_changes = (free_tells, held_tells (event Acquire 0 0 tt tt) refl refl, table_stays)
+table_changes = (first_tells, held_tells 0 tt, table_stays)
 
 pub held_turned_away : HeldTurnedAway
 held_turned_away = (
-  acquired (event Acquire 0 0 tt tt) refl refl,
+  acquired 0 tt,
   refused (held_by 0) (event Acquire 1 0 tt tt) AlreadyHeld refl,
-  λ table next tells h. none-some 5 (h.answer (event Acquire 0 0 tt tt ∷ []) tells),
-  λ h. none-some _ (ap (λ (t : LockTable). slice_index_or t.holders 0 None) (h.same refl)),
-  λ h. none-some 5 (sym (h.answer [] free_tells)),
+  λ check next tells h. none-some 5 (h.answer (event Acquire 0 0 tt tt ∷ []) tells),
+  λ h. none-some _ (ap (λ (c : TraceCheck). slice_index_or c.locks.holders 0 None) (h.same refl)),
+  λ h. none-some 5 (sym (h.answer [] first_tells)),
 )
 
 pub taken_with_room : TakenWithRoom

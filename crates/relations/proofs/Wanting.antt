@@ -14,8 +14,8 @@ use Rattle.predict.specs.Parts.{ReadWants, AcquireIn, LockWants}
 use Rattle.predict.proofs.ClashParts.{zeros}
 use Rattle.predict.proofs.RuleTests.{sync_decided, happens_before_decided, schedulable_decided}
 use Rattle.cases.proofs.Judging.{locked_admitted}
-use Rattle.cases.specs.Examples.{event, sections_between, writes_locked, read_between}
-use Rattle.relations.specs.Rules.{one, two, bounds, LawsNeedCause, SyncOfTwo, SyncOfRead, ReleaseWanted, BothWanted, HalvesOfSync, ReleaseMissed, MissedOutside, SearchEnough}
+use Rattle.cases.specs.Examples.{event, sections_between, writes_locked, read_between, worker_awaited}
+use Rattle.relations.specs.Rules.{one, two, bounds, LawsNeedCause, SyncOfTwo, SyncOfRead, ThreadsWanted, ReleaseWanted, BothWanted, HalvesOfSync, ReleaseMissed, MissedOutside, SearchEnough}
 
 pub laws_need_cause : LawsNeedCause
 laws_need_cause l = let (k, r, b) = l.earlier [] (λ k. false) 5 tt (empty_cut []) refl in false≢true r
@@ -25,6 +25,14 @@ sync_of_two = (sync_decided.wanted writes_locked (two 0 3) 2 refl, λ h. false�
 
 pub sync_of_read : SyncOfRead
 sync_of_read = (sync_decided.wanted read_between (one 2) 1 refl, λ h. false≢true (sync_decided.passes read_between (one 2) 0 h))
+
+pub threads_wanted : ThreadsWanted
+threads_wanted = (
+  sync_decided.wanted worker_awaited (one 2) 1 refl,
+  sync_decided.wanted worker_awaited (one 4) 2 refl,
+  λ h. false≢true (sync_decided.passes worker_awaited (one 3) 1 h),
+  λ h. false≢true (sync_decided.passes worker_awaited (one 4) 3 h),
+)
 
 pub release_wanted : ReleaseWanted
 release_wanted = (
@@ -59,7 +67,7 @@ missed_outside = (
   λ m. true≢false m.outside.not_held,
 )
 
--- each half is a part of the rule
+-- each of the two is a part of the rule
 of_read : (t : List Event) (c : Positions) (w : ℕ) → ReadWants t c w → SyncWants t c w
 of_read t c w h = last_write h.inside h.last_write
 

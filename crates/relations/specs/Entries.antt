@@ -2,7 +2,7 @@
 use Rattle.std.specs.Prelude.{ℕ, List, [], ◌∷◌, Ok, Err, Result}
 use Rattle.trace.specs.declared.event.Event.{Event}
 use Rattle.trace.specs.declared.kind.Kind.TheVariants.{Read, Write, Acquire}
-use Rattle.trace.specs.declared.locks.LockTable.{LockTable}
+use Rattle.trace.specs.declared.check.TraceCheck.{TraceCheck}
 use Rattle.trace.specs.Records.{record_of}
 use Rattle.reel.specs.declared.ReelFault.TheVariants.{Full}
 use Rattle.answer.specs.declared.fault.EntryFault.{EntryFault}
@@ -12,7 +12,7 @@ use Rattle.answer.specs.Faults.{at_index}
 use Rattle.session.specs.States.{State}
 use Rattle.session.specs.Entries.{enter, Recorded, Stands, Takes}
 use Rattle.cases.specs.Examples.{event}
-use Rattle.relations.specs.Traces.{free_table, held_by}
+use Rattle.relations.specs.Traces.{at_first, held_by}
 
 -- a session with room for one event, which is lent eight bytes that hold so
 abbrev with_room : List Event → List ℕ → State
@@ -61,8 +61,8 @@ RecordedAsRead =
     let e = event Write 0 0 tt tt in
     Recorded [] (record_of e) (e ∷ []) × (Recorded [] (record_of e) (event Read 0 0 tt tt ∷ []) → ⊥)
 
--- the tables before and after an acquire; wrong: a session whose table of lock holders is that of a shorter trace
+-- what a session keeps before and after an acquire; wrong: one that keeps what is kept after a shorter trace
 abbrev pub StandsUpToDate : Type 0
 StandsUpToDate =
     let e = event Acquire 0 0 tt tt in
-    Stands free_table [] × Stands (held_by 0) (e ∷ []) × ((table : LockTable) → Stands table [] → Stands table (e ∷ []) → ⊥)
+    Stands at_first [] × Stands (held_by 0) (e ∷ []) × ((check : TraceCheck) → Stands check [] → Stands check (e ∷ []) → ⊥)

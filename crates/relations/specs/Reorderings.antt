@@ -5,7 +5,7 @@ use Rattle.trace.specs.declared.kind.Kind.TheVariants.{Write, Acquire, Release}
 use Rattle.trace.specs.Reorderings.{Ascending, LatestWrite, Correct, SyncPreserving, Enabled, Leaves}
 use Rattle.reorder.specs.Comes.{Reorders}
 use Rattle.answer.specs.declared.verdict.Verdict.TheVariants.{NoRace}
-use Rattle.cases.specs.Examples.{event, sections_between, read_between, three_accesses}
+use Rattle.cases.specs.Examples.{event, sections_between, read_between, three_accesses, worker_awaited}
 use Rattle.cases.specs.Cases.{Judges, Vets}
 
 -- 0a0 0w0 0z0 1a0 1z0 1w0: the section with the first write could come after the other one
@@ -41,6 +41,18 @@ LocksKept = Correct write_within (0 ∷ 3 ∷ []) → ⊥
 -- wrong: a read without the write that it reads from
 abbrev pub ReadsKept : Type 0
 ReadsKept = Correct read_between (2 ∷ []) → ⊥
+
+-- wrong: an event of a spawned thread without the spawn
+abbrev pub SpawnsKept : Type 0
+SpawnsKept = Correct worker_awaited (2 ∷ []) → ⊥
+
+-- wrong: a join without the event of the thread that it awaits
+abbrev pub AwaitedKept : Type 0
+AwaitedKept = Correct worker_awaited (0 ∷ 1 ∷ 3 ∷ 4 ∷ []) → ⊥
+
+-- the first event of a spawned thread is enabled after the spawn; wrong: before it
+abbrev pub EnabledOnceSpawned : Type 0
+EnabledOnceSpawned = Enabled worker_awaited (0 ∷ 1 ∷ []) 2 × (Enabled worker_awaited (0 ∷ []) 2 → ⊥)
 
 -- an event is enabled after all events before it in its thread; wrong: after only the first of them, and after itself
 abbrev pub EnabledAfterAll : Type 0

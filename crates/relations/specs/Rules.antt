@@ -4,7 +4,7 @@ use Rattle.trace.specs.Limits.{locks}
 use Rattle.trace.specs.Cuts.{Positions, Laws, SyncWants, HappensBeforeWants, SchedulableWants}
 use Rattle.predict.specs.Held.{NamesOutside, Answers, Misses}
 use Rattle.predict.specs.Parts.{ReadWants, LockWants, Enough}
-use Rattle.cases.specs.Examples.{sections_between, writes_locked, read_between}
+use Rattle.cases.specs.Examples.{sections_between, writes_locked, read_between, worker_awaited}
 
 -- one position, and two, as a cut
 abbrev pub one : ℕ → Positions
@@ -29,6 +29,13 @@ SyncOfTwo = SyncWants writes_locked (two 0 3) 2 × (SyncWants writes_locked (one
 abbrev pub SyncOfRead : Type 0
 SyncOfRead = SyncWants read_between (one 2) 1 × (SyncWants read_between (one 2) 0 → ⊥)
 
+-- an event of a spawned thread wants the spawn, and a join the last event of the thread that it awaits; wrong: that an event of another thread
+-- wants the spawn, and that a join wants an event of another thread
+abbrev pub ThreadsWanted : Type 0
+ThreadsWanted =
+    SyncWants worker_awaited (one 2) 1 × SyncWants worker_awaited (one 4) 2 × (SyncWants worker_awaited (one 3) 1 → ⊥)
+    × (SyncWants worker_awaited (one 4) 3 → ⊥)
+
 -- in happens-before a lone acquire wants the earlier release; wrong: that a release wants one, and that a read wants its last write
 abbrev pub ReleaseWanted : Type 0
 ReleaseWanted =
@@ -40,7 +47,7 @@ abbrev pub BothWanted : Type 0
 BothWanted =
     SchedulableWants sections_between (one 3) 2 × SchedulableWants read_between (one 2) 1 × (SchedulableWants read_between (one 2) 0 → ⊥)
 
--- the two halves of the sync rule; wrong: a read that is not in the cut, and an acquire that is alone
+-- two of the three parts of the sync rule; wrong: a read that is not in the cut, and an acquire that is alone
 abbrev pub HalvesOfSync : Type 0
 HalvesOfSync =
     ReadWants read_between (one 2) 1 × (ReadWants read_between (one 3) 1 → ⊥)

@@ -3,14 +3,14 @@
 //! with their proofs; the functions do nothing.
 #![tactic(auto)]
 
-ghost use Rattle.relations.specs.Traces.{NoSecondHolder, PreviousLatest, LastWriteOfVariable, ReleaseOfThread, ReleaseFrees, TableChanges, HeldTurnedAway, TakenWithRoom};
-ghost use Rattle.relations.specs.Reorderings.{AscendingOnly, LatestBehind, InTraceOnly, OnceOnly, ThreadOrderKept, LocksKept, ReadsKept, EnabledAfterAll};
+ghost use Rattle.relations.specs.Traces.{NoSecondHolder, NoneJoined, SpawnedOnce, PreviousLatest, PreviousSpawn, LastWriteOfVariable, ReleaseOfThread, ReleaseFrees, TableChanges, HeldTurnedAway, TakenWithRoom};
+ghost use Rattle.relations.specs.Reorderings.{AscendingOnly, LatestBehind, InTraceOnly, OnceOnly, ThreadOrderKept, LocksKept, ReadsKept, SpawnsKept, AwaitedKept, EnabledOnceSpawned, EnabledAfterAll};
 ghost use Rattle.relations.specs.Reorderings.{SectionsSwapped, SwapRefused, SectionReorders};
-ghost use Rattle.relations.specs.Next.{AcquiresAgree, ReadAgrees, AcquireComes, TableAnswered};
-ghost use Rattle.relations.specs.Rules.{LawsNeedCause, SyncOfTwo, SyncOfRead, ReleaseWanted, BothWanted, HalvesOfSync, ReleaseMissed, MissedOutside, SearchEnough};
+ghost use Rattle.relations.specs.Next.{AcquiresAgree, ThreadHad, ReadAgrees, AcquireComes, TableAnswered};
+ghost use Rattle.relations.specs.Rules.{LawsNeedCause, SyncOfTwo, SyncOfRead, ThreadsWanted, ReleaseWanted, BothWanted, HalvesOfSync, ReleaseMissed, MissedOutside, SearchEnough};
 ghost use Rattle.relations.specs.Closures.{CutFromFirst, LessInside, ClosedWithRelease, ClosureLeast, SeedsPrevious, SeedsInTrace, ReleaseReached, ClosesBetween};
 ghost use Rattle.relations.specs.Closures.{OutsideSections, FoundOutside};
-ghost use Rattle.relations.specs.Orders.{ReleaseFirst, SectionsInOrder, NotBeforeByRead, ReadInOrder, NotScheduledByOther};
+ghost use Rattle.relations.specs.Orders.{ReleaseFirst, SectionsInOrder, NotBeforeByRead, WorkerInOrder, ReadInOrder, NotScheduledByOther};
 ghost use Rattle.relations.specs.Buffers.{FilledAtStart, FilledWhenShort, FilledCollects, CollectedAtStart, OfferedCounts, AddsCount};
 ghost use Rattle.relations.specs.Entries.{EventTaken, FullRefuses, RecordedAsRead, StandsUpToDate};
 ghost use Rattle.relations.specs.Races.{OtherVerdict, OtherAnswer, OtherRefusal, SchedulablePair, WitnessClosed, LeastShown, SectionShown, WitnessWritten};
@@ -20,25 +20,27 @@ ghost use Rattle.relations.specs.Runs.{RaceOnceEntered, VerdictStays, WitnessAgr
 ghost use Rattle.relations.specs.Texts.{LineOfPair, AllLines, PairsReported, RecordsReported, CutReported, NothingReported, RefusalsAnswered};
 ghost use Rattle.relations.specs.Texts.{RecordsAnswered, RaceTold, WitnessShown, PartnersListed, RacesFound, LineTold};
 
-/// Traces, the table of lock holders, and reels.
+/// Traces, what the trace check keeps, and reels.
 pub fn traces()
-    ensures { NoSecondHolder × PreviousLatest × LastWriteOfVariable × ReleaseOfThread × ReleaseFrees × TableChanges × HeldTurnedAway × TakenWithRoom }
+    ensures { NoSecondHolder × NoneJoined × SpawnedOnce × PreviousLatest × PreviousSpawn × LastWriteOfVariable × ReleaseOfThread × ReleaseFrees
+        × TableChanges × HeldTurnedAway × TakenWithRoom }
 {}
 
 /// Reorderings.
 pub fn reorderings()
-    ensures { AscendingOnly × LatestBehind × InTraceOnly × OnceOnly × ThreadOrderKept × LocksKept × ReadsKept × EnabledAfterAll × SectionsSwapped
-        × SwapRefused × SectionReorders }
+    ensures { AscendingOnly × LatestBehind × InTraceOnly × OnceOnly × ThreadOrderKept × LocksKept × ReadsKept × SpawnsKept × AwaitedKept × EnabledOnceSpawned
+        × EnabledAfterAll × SectionsSwapped × SwapRefused × SectionReorders }
 {}
 
 /// Events that may come next.
 pub fn next_events()
-    ensures { AcquiresAgree × ReadAgrees × AcquireComes × TableAnswered }
+    ensures { AcquiresAgree × ThreadHad × ReadAgrees × AcquireComes × TableAnswered }
 {}
 
 /// Rules.
 pub fn rules()
-    ensures { LawsNeedCause × SyncOfTwo × SyncOfRead × ReleaseWanted × BothWanted × HalvesOfSync × ReleaseMissed × MissedOutside × SearchEnough }
+    ensures { LawsNeedCause × SyncOfTwo × SyncOfRead × ThreadsWanted × ReleaseWanted × BothWanted × HalvesOfSync × ReleaseMissed × MissedOutside
+        × SearchEnough }
 {}
 
 /// Cuts and closures.
@@ -49,7 +51,7 @@ pub fn closures()
 
 /// Happens-before and schedulable happens-before.
 pub fn orders()
-    ensures { ReleaseFirst × SectionsInOrder × NotBeforeByRead × ReadInOrder × NotScheduledByOther }
+    ensures { ReleaseFirst × SectionsInOrder × NotBeforeByRead × WorkerInOrder × ReadInOrder × NotScheduledByOther }
 {}
 
 /// What a caller's buffer holds.

@@ -2,25 +2,27 @@
 ghost use Rattle.std.specs.Prelude.{◌≡◌, ℕ, true, ◌↔◌, Some, IsSome, IfSome};
 ghost use Rattle.std.proofs.Props.{props};
 ghost use mathlib.Core.List.{Memᴰ};
-ghost use Rattle.trace.specs.Traces.{At, Previous};
+ghost use Rattle.std.specs.List.{slice_get};
+ghost use Rattle.trace.specs.Traces.{At, Previous, SpawnOf};
+ghost use Rattle.trace.specs.Lookups.{fits_here, spawns, of_thread};
 ghost use Rattle.trace.specs.Reorderings.{picked, LatestWrite, Enabled, Leaves};
-ghost use Rattle.trace.specs.Locks.{Tells};
-ghost use Rattle.reorder.specs.Comes.{Reorders, AcquiredBefore, Agrees, Answered};
+ghost use Rattle.trace.specs.Checks.{Tells};
+ghost use Rattle.reorder.specs.Comes.{Reorders, AcquiredBefore, HasSpawns, HasEvents, Agrees, Answered};
 
 use predict::lookup::{is_write_at, last_write, previous};
 use reel::Reel;
+use trace::check::TraceCheck;
 use trace::event::Event;
 use trace::kind::Kind;
-use trace::locks::LockTable;
 
-/// A list of positions that is a sync-preserving correct reordering of the reel's trace, and who holds each lock after its events.
+/// A list of positions that is a sync-preserving correct reordering of the reel's trace, and what the trace check keeps after its events.
 #[derive(Drop)]
 struct Reordering<'a, R: Reel> {
     reel: &'a R,
     list: &'a [u16],
-    locks: LockTable,
+    check: TraceCheck,
     ghost reorders: { ∥ Reorders (R.Reel.events reel.now) list.now ∥₁ },
-    ghost told: { Tells locks (picked (R.Reel.events reel.now) list.now) } by { Prim.hlevel props },
+    ghost told: { Tells check (picked (R.Reel.events reel.now) list.now) } by { Prim.hlevel props },
 }
 
 impl<'a, R: Reel> Reordering<'a, R> {
@@ -29,16 +31,16 @@ impl<'a, R: Reel> Reordering<'a, R> {
         ensures decided { let t = R.Reel.events reel.now in IsSome result ↔ Reorders t list.now }
         ensures same { IfSome result (λ r. (r.reel.now ≡ reel.now) × (r.list.now ≡ list.now)) }
     {
-        let mut locks = LockTable::new();
+        let mut check = TraceCheck::new();
         for (i, position) in list.iter().enumerate() {
             let so_far = Reordering {
                 reel,
                 list: &list[..i],
-                locks,
+                check,
             };
-            locks = so_far.locks_with(usize::from(*position))?;
+            check = so_far.check_with(usize::from(*position))?;
         }
-        Some(Reordering { reel, list, locks })
+        Some(Reordering { reel, list, check })
     }
 
     /// Whether the position stands in the list.
@@ -59,11 +61,62 @@ impl<'a, R: Reel> Reordering<'a, R> {
         }
     }
 
+    /// Whether there is a spawn of the thread at the position.
+    fn is_spawn(&self, position: usize, thread: u16) -> bool
+        ensures { let t = R.Reel.events self.now.reel.now in result ≡ fits_here (spawns thread) (slice_get t position) }
+    {
+        self.reel.event(position).is_some_and(|event| event.kind == Kind::Spawn
+            && event.subject == thread)
+    }
+
+    /// Whether there is an event of the thread at the position.
+    fn is_of_thread(&self, position: usize, thread: u16) -> bool
+        ensures { let t = R.Reel.events self.now.reel.now in result ≡ fits_here (of_thread thread) (slice_get t position) }
+    {
+        self.reel
+            .event(position)
+            .is_some_and(|event| u16::from(event.thread) == thread)
+    }
+
+    /// Whether each spawn of the thread before the position stands in the list.
+    fn has_spawns(&self, position: usize, thread: u16) -> bool
+        ensures { let t = R.Reel.events self.now.reel.now in (result ≡ true) ↔ HasSpawns t self.now.list.now position thread }
+    {
+        for earlier in 0..position {
+            if self.is_spawn(earlier, thread) && !self.has(earlier) {
+                return false;
+            }
+        }
+        true
+    }
+
+    /// Whether each event of the thread before the position stands in the list.
+    fn has_events(&self, position: usize, thread: u16) -> bool
+        ensures { let t = R.Reel.events self.now.reel.now in (result ≡ true) ↔ HasEvents t self.now.list.now position thread }
+    {
+        for earlier in 0..position {
+            if self.is_of_thread(earlier, thread) && !self.has(earlier) {
+                return false;
+            }
+        }
+        true
+    }
+
+    /// Whether each spawn of the thread of the position, if that has an event, stands in the list.
+    fn is_spawned(&self, position: usize) -> bool
+        ensures { let t = R.Reel.events self.now.reel.now in (result ≡ true) ↔ ((s : ℕ) → SpawnOf t s position → Memᴰ s self.now.list.now) }
+    {
+        match self.reel.event(position) {
+            Some(event) => self.has_spawns(position, u16::from(event.thread)),
+            None => true,
+        }
+    }
+
     /// Whether the position is enabled after the list.
     fn is_enabled(&self, position: usize) -> bool
         ensures { let t = R.Reel.events self.now.reel.now in (result ≡ true) ↔ Enabled t self.now.list.now position }
     {
-        !self.has(position) && self.has_previous(position)
+        !self.has(position) && self.has_previous(position) && self.is_spawned(position)
     }
 
     /// Whether each of the events is enabled after the list.
@@ -89,26 +142,26 @@ impl<'a, R: Reel> Reordering<'a, R> {
     fn acquired_before(&self, position: usize, lock: u16) -> bool
         ensures { let t = R.Reel.events self.now.reel.now in (result ≡ true) ↔ AcquiredBefore t self.now.list.now position lock }
     {
-        let mut locks = LockTable::new();
+        let mut check = TraceCheck::new();
         for k in self.list.iter() {
             let acquire = usize::from(*k);
             if let Some(event) = self.reel.event(acquire) {
                 if event.kind == Kind::Acquire
                     && event.subject == lock
                     && acquire >= position
-                    && locks.depth(event.thread, event.subject) == 0
+                    && check.depth(event.thread, event.subject) == 0
                 {
                     return false;
                 }
                 // the trace check refuses no event of a reordering
-                let _ = locks.turn(&event);
+                let _ = check.turn(&event);
             }
         }
         true
     }
 
-    /// Whether the event at the position, if that is enabled, agrees with the trace after the list: a read has its last write there, and an
-    /// outer acquire comes after the earlier outer acquires of its lock.
+    /// Whether the event at the position, if that is enabled, agrees with the trace after the list: a read has its last write there, an
+    /// outer acquire comes after the earlier outer acquires of its lock, and a join after the spawn and the events of the thread that it awaits.
     fn agrees(&self, position: usize, event: &Event) -> bool
         ensures { let t = R.Reel.events self.now.reel.now in (At t position event.now → Enabled t self.now.list.now position
             → (result ≡ true) ↔ Agrees t self.now.list.now position event.now) }
@@ -116,24 +169,27 @@ impl<'a, R: Reel> Reordering<'a, R> {
         match event.kind {
             Kind::Read => self.latest_write(event.subject) == last_write(self.reel, position),
             Kind::Acquire => {
-                self.locks.depth(event.thread, event.subject) > 0
+                self.check.depth(event.thread, event.subject) > 0
                     || self.acquired_before(position, event.subject)
             }
-            Kind::Write | Kind::Release => true,
+            Kind::Join => {
+                self.has_spawns(position, event.subject) && self.has_events(position, event.subject)
+            }
+            Kind::Write | Kind::Release | Kind::Spawn => true,
         }
     }
 
-    /// Who holds each lock after the event at the position too, if it may come next.
-    fn locks_with(&self, position: usize) -> Option<LockTable>
+    /// What the trace check keeps after the event at the position too, if it may come next.
+    fn check_with(&self, position: usize) -> Option<TraceCheck>
         ensures { let t = R.Reel.events self.now.reel.now in Answered t self.now.list.now position result }
     {
         let event = self.reel.event(position)?;
         if !self.is_enabled(position) || !self.agrees(position, &event) {
             return None;
         }
-        let mut locks = self.locks;
-        locks.turn(&event).ok()?;
-        Some(locks)
+        let mut check = self.check;
+        check.turn(&event).ok()?;
+        Some(check)
     }
 }
 

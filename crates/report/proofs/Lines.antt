@@ -4,10 +4,10 @@ use Rattle.std.specs.List.{slice_get}
 use Rattle.std.proofs.lemmas.List.{take_more}
 use Rattle.std.proofs.lemmas.Option.{slice_get-get_or}
 use Rattle.trace.specs.declared.event.Event.{Event}
-use Rattle.trace.specs.declared.locks.LockTable.{LockTable}
+use Rattle.trace.specs.declared.check.TraceCheck.{TraceCheck}
 use Rattle.trace.specs.declared.locks.TraceFault.{TraceFault}
 use Rattle.trace.specs.Traces.{Admits, depth_at}
-use Rattle.trace.specs.Locks.{standing, Tells, Turned}
+use Rattle.trace.specs.Checks.{standing, Tells, Turned}
 use Rattle.trace.specs.Depths.{depth_in}
 use Rattle.trace.proofs.Depths.{held_as_deep}
 use Rattle.trace.proofs.Holders.{admits_take}
@@ -39,16 +39,16 @@ module _ (t : List Event) where
       let zero : 0 + length (take k t) ≡ k = omega arith in
       sym (ap (event_lines t 0) (more k e inside is) ∙ lines_push 0 (take k t) e ∙ rw zero refl)
 
--- a table that tells of the first k events of an admitted trace
-module _ (t : List Event) (admitted : Admits t) (table : LockTable) (k : ℕ) (tells : Tells table (take k t)) (e : Event) (is : Some e ≡ slice_get t k) where
+-- a trace check that tells of the first k events of an admitted trace
+module _ (t : List Event) (admitted : Admits t) (check : TraceCheck) (k : ℕ) (tells : Tells check (take k t)) (e : Event) (is : Some e ≡ slice_get t k) where
   -- tells how deep the thread of the next event is in its lock
-  pub depth_told : depth_in ((standing table).holders e.subject) e.thread ≡ depth_at t k e
-  depth_told = ap (λ o. depth_in o e.thread) (tells e.subject) ∙ held_as_deep (take k t) (admits_take t k admitted) e.thread e.subject
+  pub depth_told : depth_in ((standing check).holders e.subject) e.thread ≡ depth_at t k e
+  depth_told = ap (λ o. depth_in o e.thread) (tells.holders e.subject) ∙ held_as_deep (take k t) (admits_take t k admitted) e.thread e.subject
 
   -- lets that event come
-  pub lets_next : (f : TraceFault) (next : LockTable) → Turned table e (Err f) next → ⊥
+  pub lets_next : (f : TraceFault) (next : TraceCheck) → Turned check e (Err f) next → ⊥
   lets_next f next turned = let q = turned.answer (take k t) tells ∙ allowed_in t k e admitted (sym is) in grind arith
 
   -- and then tells of one event more
-  pub tells_next : (next : LockTable) → k < length t → Turned table e (Ok tt) next → Tells next (take (k + 1) t)
+  pub tells_next : (next : TraceCheck) → k < length t → Turned check e (Ok tt) next → Tells next (take (k + 1) t)
   tells_next next inside turned = rw (more t k e inside is) (turned.tells (take k t) tells)

@@ -2,7 +2,7 @@
 use Rattle.std.specs.Prelude.{◌≡◌, ℕ, suc, ◌+◌, cond, List, [], ◌∷◌, ◌++◌, length, Ok, Err, codes, decimal, Result, nat_lt}
 use Rattle.trace.specs.declared.event.Event.{Event}
 use Rattle.trace.specs.declared.kind.Kind.{Kind}
-use Rattle.trace.specs.declared.kind.Kind.TheVariants.{Read, Write, Acquire, Release}
+use Rattle.trace.specs.declared.kind.Kind.TheVariants.{Read, Write, Acquire, Release, Spawn, Join}
 use Rattle.trace.specs.Traces.{depth_at}
 use Rattle.answer.specs.Faults.{Refusal}
 
@@ -12,13 +12,17 @@ deed Read = codes "reads variable"
 deed Write = codes "writes variable"
 deed Acquire = codes "acquires lock"
 deed Release = codes "releases lock"
+deed Spawn = codes "spawns thread"
+deed Join = codes "joins thread"
 
--- how deep the hold is that an acquire makes, or that a release ends, where the thread is n deep in the lock before it; accesses have none
+-- how deep the hold is that an acquire makes, or that a release ends, where the thread is n deep in the lock before it; the other kinds have none
 abbrev pub level : Kind → ℕ → ℕ
 level Read n = 0
 level Write n = 0
 level Acquire n = suc n
 level Release n = n
+level Spawn n = 0
+level Join n = 0
 
 -- how deep a hold is, where it is deeper than once
 abbrev pub at_depth : ℕ → List ℕ

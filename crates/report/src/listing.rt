@@ -8,10 +8,10 @@ use reel::Reel;
 use session::session::Session;
 use std::alloc::{AllocError, Global};
 use std::fmt;
+use trace::check::TraceCheck;
 use trace::event::Event;
 use trace::fault::Fault;
 use trace::kind::Kind;
-use trace::locks::LockTable;
 
 /// What an event of a kind does, and to what.
 #[derive(Clone, Copy)]
@@ -26,6 +26,8 @@ impl fmt::Display for Deed {
             Kind::Write => "writes variable",
             Kind::Acquire => "acquires lock",
             Kind::Release => "releases lock",
+            Kind::Spawn => "spawns thread",
+            Kind::Join => "joins thread",
         })
     }
 }
@@ -35,12 +37,12 @@ impl fmt::Display for Deed {
 struct Level(u16);
 
 impl Level {
-    /// Of the hold that an acquire makes, or that a release ends, where the thread is so deep in the lock before it; accesses have none.
+    /// Of the hold that an acquire makes, or that a release ends, where the thread is so deep in the lock before it; the other kinds have none.
     fn of(kind: Kind, depth: u8) -> Level
         ensures { result.0 ≡ level kind depth }
     {
         Level(match kind {
-            Kind::Read | Kind::Write => 0,
+            Kind::Read | Kind::Write | Kind::Spawn | Kind::Join => 0,
             Kind::Acquire => u16::from(depth) + 1,
             Kind::Release => u16::from(depth),
         })
@@ -151,16 +153,16 @@ impl<R: Reel> fmt::Display for EventLines<'_, R> {
     ghost output = { λ l. Some (event_lines l.0.now.trace 0 l.0.now.trace) };
 
     fn fmt<W: fmt::Write>(&self, f: &mut fmt::Formatter<W>) -> fmt::Result {
-        let mut locks = LockTable::new();
+        let mut check = TraceCheck::new();
         for (position, event) in self.0.iter().enumerate() {
-            let depth = locks.depth(event.thread, event.subject);
+            let depth = check.depth(event.thread, event.subject);
             let line = EventLine {
                 position,
                 event,
                 depth,
             };
             write!(f, "{line}")?;
-            let Ok(()) = locks.turn(&event) else {
+            let Ok(()) = check.turn(&event) else {
                 unreachable!()
             };
         }

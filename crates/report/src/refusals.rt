@@ -1,9 +1,10 @@
 //! Why a record or a question is refused, in words.
 ghost use Rattle.std.specs.Prelude.{◌≡◌, IfOk, Some, slice_index, string_bytes};
+ghost use Rattle.trace.specs.Faults.{trace_number};
 ghost use Rattle.trace.specs.Records.{kind_of};
 ghost use Rattle.answer.specs.Faults.{entry_number, refusal};
 ghost use Rattle.answer.specs.Verdicts.{witness_number};
-ghost use Rattle.report.specs.Refusals.{record_at, subject_in, past_limit, record_words, question_words, refused_record, refused_question};
+ghost use Rattle.report.specs.Refusals.{record_at, subject_in, past_limit, trace_words, record_words, question_words, refused_record, refused_question};
 
 use answer::collector::BufferFault;
 use answer::fault::{EntryFault, EntryRefusal, PairFault};
@@ -28,7 +29,7 @@ fn record_at(input: &[u8], index: usize) -> &[u8]
     rest.get(..RECORD).unwrap_or(rest)
 }
 
-/// A variable or a lock that is past the last one, by the kind of its event.
+/// A variable, a lock or a thread that is past the last one, by the kind of the event that names it.
 #[derive(Clone, Copy)]
 struct PastLimit {
     kind: Option<Kind>,
@@ -44,7 +45,55 @@ impl fmt::Display for PastLimit {
             Some(Kind::Read | Kind::Write) => {
                 write!(f, "variable {subject} is not below {VARIABLES}")
             }
-            _ => write!(f, "lock {subject} is not below {LOCKS}"),
+            None | Some(Kind::Acquire | Kind::Release) => {
+                write!(f, "lock {subject} is not below {LOCKS}")
+            }
+            Some(Kind::Spawn) => write!(f, "spawned thread {subject} is not below {THREADS}"),
+            Some(Kind::Join) => write!(f, "joined thread {subject} is not below {THREADS}"),
+        }
+    }
+}
+
+/// An event that the trace check turns away: its thread, its subject, and why.
+#[derive(Clone, Copy)]
+struct TurnedAway {
+    thread: u8,
+    subject: u16,
+    fault: TraceFault,
+}
+
+impl fmt::Display for TurnedAway {
+    ghost output = { λ e. Some (trace_words e.thread e.subject (trace_number e.fault)) };
+
+    fn fmt<W: fmt::Write>(&self, f: &mut fmt::Formatter<W>) -> fmt::Result {
+        let thread = self.thread;
+        let subject = self.subject;
+        match self.fault {
+            TraceFault::Ended => write!(f, "thread {thread} was joined by an earlier event"),
+            TraceFault::NotStartable if u16::from(thread) == subject => {
+                write!(f, "thread {thread} cannot spawn or join itself")
+            }
+            TraceFault::NotStartable => {
+                write!(
+                    f,
+                    "spawns thread {subject}, which has events, or was spawned or joined before"
+                )
+            }
+            TraceFault::AlreadyHeld => {
+                write!(f, "acquires lock {subject}, which another thread holds")
+            }
+            TraceFault::TooDeep => {
+                write!(
+                    f,
+                    "acquires lock {subject}, which thread {thread} would hold more than {DEEPEST} deep"
+                )
+            }
+            TraceFault::NotHolder => {
+                write!(
+                    f,
+                    "releases lock {subject}, which thread {thread} does not hold"
+                )
+            }
         }
     }
 }
@@ -72,7 +121,7 @@ impl RefusedRecord<'_> {
         Kind::try_from(self.byte(0)).ok()
     }
 
-    /// The number of the variable or the lock.
+    /// The number of the variable, the lock or the thread that it names.
     fn subject(&self) -> u16
         ensures { result ≡ subject_in self.now.bytes.now }
     {
@@ -102,20 +151,13 @@ impl fmt::Display for RefusedRecord<'_> {
                 let kind = self.kind();
                 PastLimit { kind, subject }.fmt(f)
             }
-            EntryFault::Trace(TraceFault::AlreadyHeld) => {
-                write!(f, "acquires lock {subject}, which another thread holds")
-            }
-            EntryFault::Trace(TraceFault::TooDeep) => {
-                write!(
-                    f,
-                    "acquires lock {subject}, which thread {thread} would hold more than {DEEPEST} deep"
-                )
-            }
-            EntryFault::Trace(TraceFault::NotHolder) => {
-                write!(
-                    f,
-                    "releases lock {subject}, which thread {thread} does not hold"
-                )
+            EntryFault::Trace(fault) => {
+                let turned = TurnedAway {
+                    thread,
+                    subject,
+                    fault,
+                };
+                turned.fmt(f)
             }
             EntryFault::Reel(ReelFault::Full) => {
                 let room = self.room;

@@ -5,7 +5,7 @@ use mathlib.Core.List.{Memᴰ}
 use Rattle.std.specs.List.{slice_get}
 use Rattle.trace.specs.declared.event.Event.{Event}
 use Rattle.trace.specs.Traces.{at_start, Admits}
-use Rattle.trace.specs.Lookups.{latest, of_thread, from_event, previous, previous_events}
+use Rattle.trace.specs.Lookups.{latest, of_thread, spawns, or_found, from_event, previous, previous_events}
 use Rattle.trace.specs.Reorderings.{Ascending}
 use Rattle.trace.specs.Cuts.{Positions, In, Closure, SyncWants, listed}
 use Rattle.trace.proofs.Events.{nth_front}
@@ -33,9 +33,10 @@ module _ (t u : List Event) where
   previous_longer : (k : ℕ) → k < length t → previous (t ++ u) k ≡ previous t k
   previous_longer k h = rw (nth_front t u k h) (go (slice_get t k))
     where
-      go : (o : Option Event) → from_event (λ e. latest (of_thread e.thread) (t ++ u) k) o ≡ from_event (λ e. latest (of_thread e.thread) t k) o
+      go : (o : Option Event) → from_event (λ e. or_found (latest (of_thread e.thread) (t ++ u) k) (latest (spawns e.thread) (t ++ u) k)) o
+          ≡ from_event (λ e. or_found (latest (of_thread e.thread) t k) (latest (spawns e.thread) t k)) o
       go None = refl
-      go (Some e) = latest_longer (of_thread e.thread) k (omega arith)
+      go (Some e) = ap₂ or_found (latest_longer (of_thread e.thread) k (omega arith)) (latest_longer (spawns e.thread) k (omega arith))
 
   -- the checks of two positions of the trace
   pub refusal_longer : (p q : ℕ) → p < length t → q < length t → pair_refusal (t ++ u) p q ≡ pair_refusal t p q

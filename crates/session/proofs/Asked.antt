@@ -5,6 +5,7 @@ use Rattle.std.specs.List.{slice_get}
 use Rattle.std.proofs.lemmas.Bool.{cases_Bool, ltb-true, true≢false}
 use Rattle.trace.specs.declared.event.Event.{Event}
 use Rattle.trace.specs.Traces.{At, Previous}
+use Rattle.trace.specs.Traces.Previous.{in_thread, by_spawn}
 use Rattle.trace.specs.Conflicts.{conflict}
 use Rattle.trace.specs.Lookups.{previous}
 use Rattle.trace.specs.Orders.{SchedulableHappensBefore}
@@ -59,6 +60,11 @@ module _ (t : List Event) (bounds : List ℕ) (p : ℕ) (e : Event) (is : At t p
 pub not_by : {A B C : Type 0} → A ↔ (B → ⊥) → B ↔ C → A ↔ (C → ⊥)
 not_by ab bc = (λ a c. ab.0 a (bc.1 c), λ n. ab.1 (λ b. n (bc.0 b)))
 
+-- a previous event comes before
+pub previous_before : {t : List Event} {k d : ℕ} → Previous t k d → d < k
+previous_before {t} {k} {d} (in_thread h none) = h.before
+previous_before {t} {k} {d} (by_spawn h none none_later) = h.before
+
 -- the previous event that is found is the one that there is
 module _ (t : List Event) (q d : ℕ) (is : Some d ≡ previous t q) where
   pub previous_is : Previous t q d
@@ -69,7 +75,11 @@ module _ (t : List Event) (q d : ℕ) (is : Some d ≡ previous t q) where
 
   -- it stands in the trace
   pub previous_within : SeedsWithin t (d ∷ [])
-  previous_within = seed_within t d previous_is.earlier.first previous_is.earlier.first_is
+  previous_within = within previous_is
+    where
+      within : Previous t q d → SeedsWithin t (d ∷ [])
+      within (in_thread h none) = seed_within t d h.first h.first_is
+      within (by_spawn h none none_later) = seed_within t d h.spawn h.spawn_is
 
 -- and where none is found there is none
 pub previous_none : (t : List Event) (q : ℕ) → None ≡ previous t q → (m : ℕ) → Previous t q m → ⊥

@@ -1,11 +1,11 @@
 -- What becomes of one record, check by check.
 use Rattle.std.proofs.Common.{◌≡◌, ℕ, List, [], ◌∷◌, Ok, Err, sym, refl, ◌∙◌, append-nil}
 use Rattle.trace.specs.declared.event.Event.{Event}
-use Rattle.trace.specs.declared.locks.LockTable.{LockTable}
+use Rattle.trace.specs.declared.check.TraceCheck.{TraceCheck}
 use Rattle.trace.specs.declared.locks.TraceFault.{TraceFault}
 use Rattle.trace.specs.Records.{meaning, record_of}
 use Rattle.trace.specs.Traces.{at_start}
-use Rattle.trace.specs.Locks.{Turned}
+use Rattle.trace.specs.Checks.{Turned}
 use Rattle.trace.proofs.Holders.{admits_push}
 use Rattle.reel.specs.declared.ReelFault.{ReelFault}
 use Rattle.reel.specs.Reels.{Taken}
@@ -37,7 +37,7 @@ module _ (room : ℕ) (t : List Event) (lent loan : List ℕ) (bytes : List ℕ)
         loan = loan_is;
       }
 
-  module _ (table : LockTable) (s : Stands table t) (e : Event) (means : Ok e ≡ meaning bytes) (next : LockTable) (turned : Turned table e (Ok tt) next) where
+  module _ (table : TraceCheck) (s : Stands table t) (e : Event) (means : Ok e ≡ meaning bytes) (next : TraceCheck) (turned : Turned table e (Ok tt) next) where
     -- the reel is full
     pub no_room : (f : ReelFault) → Taken {A = Unit {0}} room t e (Err f) u
         → Takes (enter room t bytes) (state t room lent loan) bytes (Err (at_index 0 (Reel f))) (state u room_after lent_after loan_after)
@@ -63,14 +63,14 @@ module _ (room : ℕ) (t : List Event) (lent loan : List ℕ) (bytes : List ℕ)
         }
 
 -- the trace check turns the event away
-pub turned_away : (s : State) (bytes : List ℕ) (table next : LockTable) (e : Event) (f : TraceFault) → Stands table s.trace → Ok e ≡ meaning bytes
+pub turned_away : (s : State) (bytes : List ℕ) (table next : TraceCheck) (e : Event) (f : TraceFault) → Stands table s.trace → Ok e ≡ meaning bytes
     → Turned table e (Err f) next → Takes (enter s.room s.trace bytes) s bytes (Err (at_index 0 (Trace f))) s
 turned_away s bytes table next e f stands means turned =
     let q = sym (turned.answer s.trace stands.tells) in
     refused s.room s.trace s.lent s.loan bytes s.trace s.room s.lent s.loan refl (lent_same s.lent s.trace) refl (Trace f) refl (rw (← means, q) refl)
 
 -- the table stands with one event more
-pub stands_more : (room : ℕ) (t : List Event) (table next : LockTable) (e : Event) (u : List Event) → Stands table t → Turned table e (Ok tt) next
+pub stands_more : (room : ℕ) (t : List Event) (table next : TraceCheck) (e : Event) (u : List Event) → Stands table t → Turned table e (Ok tt) next
     → Taken {A = Unit {0}} room t e (Ok tt) u → Stands next u
 stands_more room t table next e u s turned taken =
     let q = sym (turned.answer t s.tells) in

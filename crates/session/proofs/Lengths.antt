@@ -1,15 +1,16 @@
 -- A dump that is a whole number of records is never refused with 1.
-use Rattle.std.proofs.Common.{◌≡◌, ℕ, zero, suc, ◌+◌, ◌*◌, ◌<◌, ◌≤◌, Bool, true, false, cond, List, [], ◌∷◌, ◌++◌, length, take, drop, Some, None, Ok, Err, Option, Result, refl, ap, ◌∙◌, arith, length-take, length-drop, nat_lt, ◌==◌}
+use Rattle.std.proofs.Common.{◌≡◌, ℕ, zero, suc, ◌+◌, ◌*◌, ◌<◌, ◌≤◌, Bool, true, false, cond, List, [], ◌∷◌, ◌++◌, length, take, drop, Some, None, Ok, Err, Option, Result, refl, ap, ◌∙◌, arith, length-take, length-drop, nat_lt, ◌==◌, ◌||◌}
 use mathlib.Core.Logic.{dite}
 use native.Mathlib.Decide.{dec_lt}
 use Rattle.std.proofs.lemmas.Bool.{eq-eqb}
 use Rattle.trace.specs.declared.event.Event.{Event}
 use Rattle.trace.specs.declared.hold.Hold.{Hold}
 use Rattle.trace.specs.declared.kind.Kind.{Kind}
-use Rattle.trace.specs.declared.kind.Kind.TheVariants.{Read, Write, Acquire, Release}
+use Rattle.trace.specs.declared.life.Life.{Life}
+use Rattle.trace.specs.declared.kind.Kind.TheVariants.{Read, Write, Acquire, Release, Spawn, Join}
 use Rattle.trace.specs.Limits.{threads, subjects, deepest}
 use Rattle.trace.specs.Records.{event_if_known, meaning}
-use Rattle.trace.specs.Traces.{standing_after, lock_refusal, trace_refusal}
+use Rattle.trace.specs.Traces.{Standing, standing_after, ended_refusal, thread_refusal, lock_refusal, or_else, trace_refusal}
 use Rattle.reel.specs.Reels.{reel_refusal}
 use Rattle.answer.specs.declared.fault.Layer.TheVariants.{Trace, Reel}
 use Rattle.answer.specs.Faults.{Refusal}
@@ -53,6 +54,40 @@ hold_not_one Release thread (Some h) = by (h.thread == thread)
     by : (b : Bool) → NotOneIf (cond b None (Some 6))
     by true = tt
     by false = λ e. omega arith
+hold_not_one Spawn thread hold = tt
+hold_not_one Join thread hold = tt
+
+thread_not_one : (k : Kind) (thread subject : ℕ) (life : Life) → NotOneIf (thread_refusal k thread subject life)
+thread_not_one Read thread subject life = tt
+thread_not_one Write thread subject life = tt
+thread_not_one Acquire thread subject life = tt
+thread_not_one Release thread subject life = tt
+thread_not_one Spawn thread subject life = by (thread == subject || (life.begun || life.named))
+  where
+    by : (b : Bool) → NotOneIf (cond b (Some 14) None)
+    by true = λ e. omega arith
+    by false = tt
+thread_not_one Join thread subject life = by (thread == subject)
+  where
+    by : (b : Bool) → NotOneIf (cond b (Some 14) None)
+    by true = λ e. omega arith
+    by false = tt
+
+ended_not_one : (life : Life) → NotOneIf (ended_refusal life)
+ended_not_one life = by life.joined
+  where
+    by : (b : Bool) → NotOneIf (cond b (Some 15) None)
+    by true = λ e. omega arith
+    by false = tt
+
+first_not_one : (a b : Option ℕ) → NotOneIf a → NotOneIf b → NotOneIf (or_else a b)
+first_not_one None b x y = y
+first_not_one (Some n) b x y = x
+
+trace_not_one : (s : Standing) (e : Event) → NotOneIf (trace_refusal s e)
+trace_not_one s e =
+    first_not_one _ _ (ended_not_one (s.lives e.thread))
+    (first_not_one _ _ (thread_not_one e.kind e.thread e.subject (s.lives e.subject)) (hold_not_one e.kind e.thread (s.holders e.subject)))
 
 full_not_one : (b : Bool) → NotOneIf (cond b None (Some 7))
 full_not_one true = tt
@@ -70,7 +105,7 @@ not_one room t i bytes r long = by (meaning bytes) (meaning_not_one bytes long)
     by : (m : Result Event ℕ) → NotOne m → checked room t i m ≡ Err r → r.number ≡ 1 → ⊥
     by (Err n) x is one = let same : n ≡ r.number = grind arith in x (same ∙ one)
     by (Ok e) x is one =
-        by_layers e (trace_refusal (standing_after t) e) (reel_refusal room t) (hold_not_one e.kind e.thread ((standing_after t).holders e.subject))
+        by_layers e (trace_refusal (standing_after t) e) (reel_refusal room t) (trace_not_one (standing_after t) e)
         (full_not_one (nat_lt (length t) room)) is one
 
 -- where there are bytes enough for as many records

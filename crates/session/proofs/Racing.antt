@@ -18,7 +18,7 @@ use Rattle.predict.specs.declared.cut.Cut.{Cut}
 use Rattle.predict.specs.Held.{held}
 use Rattle.session.specs.Questions.{pair_refusal}
 use Rattle.session.specs.Races.{Races, OutsideSync, FoundRace, Shows}
-use Rattle.session.proofs.Asked.{asked}
+use Rattle.session.proofs.Asked.{asked, previous_before}
 
 module _ (t : List Event) (p q : ℕ) (admitted : Admits t) (below : p < q) (c : Positions)
     (closure : Closure SyncWants t (previous_events t (p ∷ q ∷ [])) c) where
@@ -27,7 +27,7 @@ module _ (t : List Event) (p q : ℕ) (admitted : Admits t) (below : p < q) (c :
   q_outside in-q =
       let b = closure_bounded SyncWants sync_laws t (previous_events t (p ∷ q ∷ [])) c admitted closure q in-q in
       let s = (seeds_of t (p ∷ q ∷ [])).sound b.0 b.1 in
-      let e = s.2.earlier.before in
+      let e = previous_before s.2 in
       ⊎_elim (λ i. absurd (omega arith)) (λ m. ⊎_elim (λ i. absurd (omega arith)) (λ n. absurd (Memᴰ.not-nil n)) (Memᴰ.cases_cons m))
       (Memᴰ.cases_cons s.1)
 

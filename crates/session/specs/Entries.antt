@@ -3,11 +3,11 @@
 use Rattle.std.specs.Prelude.{◌≡◌, ℕ, zero, suc, ◌+◌, ◌*◌, ◌/◌, ◌%◌, cond, List, [], ◌∷◌, ◌++◌, length, take, drop, Some, None, Ok, Err, Option, Result, ◌==◌}
 use Rattle.std.specs.List.{flat_map}
 use Rattle.trace.specs.declared.event.Event.{Event}
-use Rattle.trace.specs.declared.locks.LockTable.{LockTable}
+use Rattle.trace.specs.declared.check.TraceCheck.{TraceCheck}
 use Rattle.trace.specs.Faults.{told}
 use Rattle.trace.specs.Records.{meaning, record_of}
 use Rattle.trace.specs.Traces.{Admits, standing_after, trace_refusal}
-use Rattle.trace.specs.Locks.{Tells}
+use Rattle.trace.specs.Checks.{Tells}
 use Rattle.reel.specs.Reels.{reel_refusal}
 use Rattle.reel.specs.Lent.{recorded_in}
 use Rattle.answer.specs.declared.fault.Layer.{Layer}
@@ -78,10 +78,10 @@ pub record Recorded (t : List Event) (bytes : List ℕ) (u : List Event) : Type 
   pub added : u ≡ t ++ new
   pub as_recorded : flat_map record_of new ≡ take (8 * length new) bytes
 
--- the trace check admits the events, and the table has the holders at their end
-pub record Stands (table : LockTable) (t : List Event) : Type 0 where
+-- the trace check admits the events, and its tables keep what is kept at their end
+pub record Stands (check : TraceCheck) (t : List Event) : Type 0 where
   pub admitted : Admits t
-  pub tells : Tells table t
+  pub tells : Tells check t
 
 -- a call that takes records from these bytes answers so, and then the session has these events, which the trace check admits as it admits those
 -- of every session, and as much room as before; of the lent bytes the records of the events that came are written, each in its place

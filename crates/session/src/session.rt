@@ -14,19 +14,19 @@ use answer::fault::{EntryFault, EntryRefusal};
 use reel::events::Events;
 use reel::{MOST_EVENTS, Reel};
 use std::marker::Model;
+use trace::check::TraceCheck;
 use trace::event::Event;
-use trace::locks::LockTable;
 use trace::record::{RecordFault, decode};
 
 mod lists;
 mod questions;
 mod races;
 
-/// The events are in the reel, and the table has the holders of the locks at their end.
+/// The events are in the reel, and the trace check keeps what it keeps at their end.
 #[derive(Drop)]
 pub struct Session<R: Reel> {
     reel: R,
-    locks: LockTable,
+    check: TraceCheck,
 }
 
 /// Of a session its callers see the trace so far, which the trace check admits, how many events it can have, and the bytes that are lent to
@@ -36,7 +36,7 @@ impl<R: Reel> Model for Session<R> {
 
     ghost view = { λ s. record { trace = R.events s.reel; room = R.room s.reel; lent = R.lent s.reel; loan = R.loan s.reel } };
 
-    ghost invariant = { λ s. Stands s.locks (R.events s.reel) };
+    ghost invariant = { λ s. Stands s.check (R.events s.reel) };
 }
 
 impl<R: Reel> Session<R> {
@@ -50,7 +50,7 @@ impl<R: Reel> Session<R> {
         reel.wipe();
         Session {
             reel,
-            locks: LockTable::new(),
+            check: TraceCheck::new(),
         }
     }
 
@@ -61,7 +61,7 @@ impl<R: Reel> Session<R> {
         ensures lent { R.Reel.lent result ≡ self.lent }
         ensures loan { R.Reel.loan result ≡ self.loan }
     {
-        let Session { reel, locks: _ } = self;
+        let Session { reel, check: _ } = self;
         reel
     }
 
@@ -70,10 +70,10 @@ impl<R: Reel> Session<R> {
         ensures { let t = self.old.trace in Takes (enter self.old.room t «record».now) self.old «record».now (told (at_index 0) result) self.new }
     {
         let event = decode(record)?;
-        let mut locks = self.locks;
-        locks.turn(&event)?;
+        let mut check = self.check;
+        check.turn(&event)?;
         self.reel.take(event)?;
-        self.locks = locks;
+        self.check = check;
         Ok(())
     }
 

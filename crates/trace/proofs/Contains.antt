@@ -4,10 +4,12 @@ use mathlib.Core.List.Memᴰ
 use mathlib.Core.List.{Memᴰ}
 use Rattle.std.proofs.lemmas.Bool.{cases_order}
 use Rattle.trace.specs.declared.event.Event.{Event}
-use Rattle.trace.specs.Traces.{At, Outer, EarlierInThread, LastWrite, ReleaseOf}
-use Rattle.trace.specs.Reorderings.{Correct, SyncPreserving, Leaves}
-use Rattle.trace.specs.Cuts.{Positions, In, Cut, Closed, Closure, SyncWants, SeedsOf}
-use Rattle.trace.specs.Cuts.SyncWants.{last_write, earlier_release}
+use Rattle.trace.specs.Traces.{At, Outer, EarlierInThread, Previous, LastWrite, ReleaseOf}
+use Rattle.trace.specs.Reorderings.{Correct, SyncPreserving, Enabled, Leaves}
+use Rattle.trace.specs.Cuts.{Positions, In, Cut, Closed, Closure, ThreadWants, SyncWants, SeedsOf}
+use Rattle.trace.specs.Cuts.SyncWants.{of_threads, last_write, earlier_release}
+use Rattle.trace.specs.Cuts.ThreadWants.{spawn, awaited_spawn, awaited_last}
+use Rattle.trace.specs.Traces.Previous.{in_thread, by_spawn}
 use Rattle.trace.proofs.Events.{at_inside}
 use Rattle.trace.proofs.Places.{Stands, at_split, stands, is_member, of_front, in_front, in_back, Side, side, before, here, behind, members, member_in, in_member}
 use Rattle.trace.proofs.Picked.{admits_before, allowed_at}
@@ -52,8 +54,15 @@ module _ (t : List Event) (σ : List ℕ) (correct : Correct t σ) where
       → Memᴰ w σ
   has_release {a} {b} w s e f member o p same rel =
       let order = correct_orderly t σ correct in
-      of_front s (release_among t s.front (orderly_front t σ order s) (admits_before t s f p.is correct.admitted) b f p (order.enabled s)
+      of_front s (release_among t s.front (orderly_front t σ order s) (admits_before t s f p.is correct.admitted) b f p (order.in_turn s)
       (allowed_at t s f p.is correct.admitted) a w e member o same rel)
+
+  -- it has what its events want of threads
+  threads_closed : (w : ℕ) → ThreadWants t (members σ) w → In w (members σ)
+  threads_closed w (spawn {k} h r) = let s = stands (in_member k σ h) in member_in (of_front s (correct.spawns s.front s.back w k s.split r))
+  threads_closed w (awaited_spawn {k} h r) = let s = stands (in_member k σ h) in member_in (of_front s (correct.awaited_spawns s.front s.back w k s.split r))
+  threads_closed w (awaited_last {k} h r) =
+      let s = stands (in_member k σ h) in member_in (of_front s (correct.awaited_events s.front s.back w k s.split r.awaited))
 
   module _ (sync : SyncPreserving t σ) where
     -- of two outer acquires of one lock, the earlier stands before the later
@@ -70,6 +79,7 @@ module _ (t : List Event) (σ : List ℕ) (correct : Correct t σ) where
 
     -- so its positions are closed under the sync rule
     members_closed : Closed SyncWants t (members σ)
+    members_closed w (of_threads h) = threads_closed w h
     members_closed w (last_write {k = k} h l) = member_in (has_write k w (in_member k σ h) l)
     members_closed w (earlier_release {a = a} {b = b} {e = e} {f = f} h g l i j v r) =
         let s = stands (in_member b σ g) in
@@ -83,5 +93,9 @@ contains t es ss c σ seeds closure leaves k h = in_member k σ
   where
     open leaves use {correct}
 
+    of_previous : {e s : ℕ} → Enabled t σ e → Previous t e s → In s (members σ)
+    of_previous {s = s} enabled (in_thread h none) = member_in (enabled.ready s h)
+    of_previous {s = s} enabled (by_spawn h none later) = member_in (enabled.spawned s h)
+
     seeded : (s : ℕ) → Memᴰ s ss → In s (members σ)
-    seeded s i = let (e, j, previous) = seeds.sound s i in member_in ((leaves.enabled e j).ready s previous.earlier)
+    seeded s i = let (e, j, previous) = seeds.sound s i in of_previous (leaves.enabled e j) previous

@@ -6,10 +6,11 @@ use Rattle.std.proofs.lemmas.Bool.{cases_eq, cases_lt, eq-eqb, ne_eqb, lt-ltb, l
 use Rattle.trace.specs.declared.event.Event.{Event}
 use Rattle.trace.specs.declared.hold.Hold.{Hold}
 use Rattle.trace.specs.declared.kind.Kind.{Kind}
-use Rattle.trace.specs.declared.kind.Kind.TheVariants.{Read, Write, Acquire, Release}
+use Rattle.trace.specs.declared.kind.Kind.TheVariants.{Read, Write, Acquire, Release, Spawn, Join}
 use Rattle.trace.specs.Limits.{deepest}
 use Rattle.trace.specs.Traces.{Standing, at_start, entered, left, turn, after_event, after, standing_after, lock_refusal, Allowed, AdmitsFrom, Admits, deeper, depth_with}
 use Rattle.trace.specs.Depths.{depth_in, HeldAsDeep}
+use Rattle.trace.proofs.Holders.{lets}
 
 -- a lock that is held is held once at least
 abbrev pub Deep : Option Hold → Type 0
@@ -84,9 +85,11 @@ module _ (s : Standing) (deep : (l : ℕ) → Deep (s.holders l)) (e : Event) (a
           of_kind Write = (sym (apart p l e _ (λ q. n (sym q))), deep l)
           of_kind Acquire = rw (ne_eqb l e.subject n) (sym (apart p l e _ (λ q. n (sym q))), deep l)
           of_kind Release = rw (ne_eqb l e.subject n) (sym (apart p l e _ (λ q. n (sym q))), deep l)
+          of_kind Spawn = (sym (apart p l e _ (λ q. n (sym q))), deep l)
+          of_kind Join = (sym (apart p l e _ (λ q. n (sym q))), deep l)
 
       here : l ≡ e.subject → Stepped p l
-      here q = rw (q, eq-eqb e.subject e.subject refl) (of_kind e.kind allowed)
+      here q = rw (q, eq-eqb e.subject e.subject refl) (of_kind e.kind (lets s e allowed).lock)
         where
           same : (b : Bool) (n : ℕ) → cond (b && true) n n ≡ n
           same true n = refl
@@ -102,6 +105,8 @@ module _ (s : Standing) (deep : (l : ℕ) → Deep (s.holders l)) (e : Event) (a
               × Deep (turn k e.thread e.subject s.holders e.subject)
           of_kind Read ok = (sym (same (eqb e.thread p) _), deep e.subject)
           of_kind Write ok = (sym (same (eqb e.thread p) _), deep e.subject)
+          of_kind Spawn ok = (sym (same (eqb e.thread p) _), deep e.subject)
+          of_kind Join ok = (sym (same (eqb e.thread p) _), deep e.subject)
           of_kind Acquire ok =
               let a = acquires_depth e.thread p (s.holders e.subject) ok (deep e.subject) in
               rw (eq-eqb e.subject e.subject refl) (a.0 ∙ sym (simpler (eqb e.thread p) _ _), a.1)

@@ -3,7 +3,7 @@ use Rattle.std.proofs.Common.{◌≡◌, ℕ, zero, suc, ◌<◌, List, [], ◌�
 use Rattle.std.specs.List.{slice_get}
 use Rattle.std.proofs.lemmas.List.{take-append-le}
 use Rattle.trace.specs.declared.event.Event.{Event}
-use Rattle.trace.specs.Traces.{At, Outer, Frees, EarlierInThread, LastWrite, ReleaseOf}
+use Rattle.trace.specs.Traces.{At, Outer, Frees, EarlierInThread, SpawnOf, AwaitedSpawn, AwaitedEvent, LastAwaited, LastWrite, ReleaseOf}
 
 -- an event stands below the length
 pub at_inside : (t : List Event) (k : ℕ) (e : Event) → At t k e → k < length t
@@ -66,6 +66,83 @@ module _ (t u : List Event) where
     second_is = at_shorter k h.second i h.second_is;
     same_thread = h.same_thread;
   }
+
+  -- spawns of an event's thread, and what a join awaits
+  pub spawn_longer : (s k : ℕ) → SpawnOf t s k → SpawnOf (t ++ u) s k
+  spawn_longer s k h = record {
+    before = h.before;
+    spawn = h.spawn;
+    event = h.event;
+    spawn_is = at_longer s h.spawn h.spawn_is;
+    event_is = at_longer k h.event h.event_is;
+    is_spawn = h.is_spawn;
+    names = h.names;
+  }
+
+  pub spawn_shorter : (s k : ℕ) → k < length t → SpawnOf (t ++ u) s k → SpawnOf t s k
+  spawn_shorter s k i h = record {
+    before = h.before;
+    spawn = h.spawn;
+    event = h.event;
+    spawn_is = at_shorter s h.spawn (omega (arith, h.before)) h.spawn_is;
+    event_is = at_shorter k h.event i h.event_is;
+    is_spawn = h.is_spawn;
+    names = h.names;
+  }
+
+  pub awaited_spawn_longer : (s k : ℕ) → AwaitedSpawn t s k → AwaitedSpawn (t ++ u) s k
+  awaited_spawn_longer s k h = record {
+    before = h.before;
+    spawn = h.spawn;
+    join = h.join;
+    spawn_is = at_longer s h.spawn h.spawn_is;
+    join_is = at_longer k h.join h.join_is;
+    is_spawn = h.is_spawn;
+    is_join = h.is_join;
+    names = h.names;
+  }
+
+  pub awaited_spawn_shorter : (s k : ℕ) → k < length t → AwaitedSpawn (t ++ u) s k → AwaitedSpawn t s k
+  awaited_spawn_shorter s k i h = record {
+    before = h.before;
+    spawn = h.spawn;
+    join = h.join;
+    spawn_is = at_shorter s h.spawn (omega (arith, h.before)) h.spawn_is;
+    join_is = at_shorter k h.join i h.join_is;
+    is_spawn = h.is_spawn;
+    is_join = h.is_join;
+    names = h.names;
+  }
+
+  awaited_longer : (d k : ℕ) → AwaitedEvent t d k → AwaitedEvent (t ++ u) d k
+  awaited_longer d k h = record {
+    before = h.before;
+    event = h.event;
+    join = h.join;
+    event_is = at_longer d h.event h.event_is;
+    join_is = at_longer k h.join h.join_is;
+    is_join = h.is_join;
+    names = h.names;
+  }
+
+  awaited_shorter : (d k : ℕ) → k < length t → AwaitedEvent (t ++ u) d k → AwaitedEvent t d k
+  awaited_shorter d k i h = record {
+    before = h.before;
+    event = h.event;
+    join = h.join;
+    event_is = at_shorter d h.event (omega (arith, h.before)) h.event_is;
+    join_is = at_shorter k h.join i h.join_is;
+    is_join = h.is_join;
+    names = h.names;
+  }
+
+  pub last_awaited_longer : (d k : ℕ) → LastAwaited t d k → LastAwaited (t ++ u) d k
+  last_awaited_longer d k h =
+      let i = at_inside t k h.awaited.join h.awaited.join_is in
+      record { awaited = awaited_longer d k h.awaited; none_later = λ m b a. h.none_later m b (awaited_shorter m k i a) }
+
+  pub last_awaited_shorter : (d k : ℕ) → k < length t → LastAwaited (t ++ u) d k → LastAwaited t d k
+  last_awaited_shorter d k i h = record { awaited = awaited_shorter d k i h.awaited; none_later = λ m b a. h.none_later m b (awaited_longer m k a) }
 
   -- last writes
   pub last_write_longer : (k w : ℕ) → LastWrite t k w → LastWrite (t ++ u) k w

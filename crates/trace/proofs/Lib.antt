@@ -4,6 +4,9 @@ pub mod Records
 pub mod Holders
 pub mod Depths
 pub mod LockTables
+pub mod ThreadTables
+pub mod Checks
+pub mod Lives
 pub mod Events
 pub mod Places
 pub mod Ascending
@@ -16,6 +19,7 @@ pub mod LookupExamples
 pub mod Picked
 pub mod Owning
 pub mod Releases
+pub mod Started
 pub mod Clashes
 pub mod Rules
 pub mod Cuts

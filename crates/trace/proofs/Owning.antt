@@ -5,31 +5,36 @@ use mathlib.Core.List.Memᴰ
 use mathlib.Core.List.{Memᴰ}
 use Rattle.std.proofs.lemmas.Bool.{cases_eq, cases_lt}
 use Rattle.trace.specs.declared.event.Event.{Event}
-use Rattle.trace.specs.Traces.{At, depth_with, depth}
-use Rattle.trace.specs.Reorderings.{picked, Correct, Enabled}
+use Rattle.trace.specs.Traces.{At, EarlierInThread, depth_with, depth}
+use Rattle.trace.specs.Reorderings.{picked, Correct}
 use Rattle.trace.specs.Depths.{DepthKept}
 use Rattle.trace.proofs.Events.{at_same}
 use Rattle.trace.proofs.Places.{Stands, at_split, is_member, of_front, in_front}
 use Rattle.trace.proofs.Picked.{picked_append}
 use Rattle.trace.proofs.Sections.{depth_push, depth_other, before_next, quiet}
 
+-- k is the next of its thread after the positions xs: it is not among them, and the earlier ones of its thread are
+pub record InTurn (t : List Event) (xs : List ℕ) (k : ℕ) : Type 0 where
+  pub outside : Memᴰ k xs → ⊥
+  pub ready : (d : ℕ) → EarlierInThread t d k → Memᴰ d xs
+
 -- positions of the trace, each once and after the earlier ones of its thread
 pub record Orderly (t : List Event) (xs : List ℕ) : Type 0 where
   pub in_trace : (k : ℕ) → Memᴰ k xs → (e : Event) × At t k e
-  pub enabled : {k : ℕ} (s : Stands k xs) → Enabled t s.front k
+  pub in_turn : {k : ℕ} (s : Stands k xs) → InTurn t s.front k
 
 -- a correct reordering is such a list
 pub correct_orderly : (t : List Event) (σ : List ℕ) → Correct t σ → Orderly t σ
 correct_orderly t σ c = record {
   in_trace = c.in_trace;
-  enabled = λ {k} s. record { outside = c.once s.front s.back k s.split; ready = λ d. c.thread_prefix s.front s.back d k s.split };
+  in_turn = λ {k} s. record { outside = c.once s.front s.back k s.split; ready = λ d. c.thread_prefix s.front s.back d k s.split };
 }
 
 -- and so is the front of one
 pub orderly_front : (t : List Event) (xs : List ℕ) {k : ℕ} → Orderly t xs → (s : Stands k xs) → Orderly t s.front
 orderly_front t xs o s = record {
   in_trace = λ m i. o.in_trace m (of_front s i);
-  enabled = λ p. o.enabled (in_front s p);
+  in_turn = λ p. o.in_turn (in_front s p);
 }
 
 module _ (t : List Event) (q : ℕ) where
@@ -39,8 +44,8 @@ module _ (t : List Event) (q : ℕ) where
     pub only : (m : ℕ) (e : Event) → At t m e → e.thread ≡ q → Memᴰ m xs → m < n
     pub depths : (l : ℕ) → depth q l (picked t xs) ≡ depth q l (take n t)
 
-  -- a position that is enabled after the list is behind these events, with none of the thread between
-  module _ (xs : List ℕ) (n k : ℕ) (e : Event) (o : Owned xs n) (i : At t k e) (own : e.thread ≡ q) (en : Enabled t xs k) where
+  -- a position that is the next of its thread is behind these events, with none of the thread between
+  module _ (xs : List ℕ) (n k : ℕ) (e : Event) (o : Owned xs n) (i : At t k e) (own : e.thread ≡ q) (en : InTurn t xs k) where
     not_before : n ≤ k
     not_before = ⊎_elim (λ g. absurd (en.outside (o.has k e i own g))) (λ g. g) (cases_lt k n)
 
@@ -92,20 +97,20 @@ module _ (t : List Event) (q : ℕ) where
       let (e, i) = order.in_trace k (is_member s) in
       let joined = append_assoc front (k ∷ []) back in
       let more : (m : ℕ) × Owned (front ++ (k ∷ [])) m =
-      ⊎_elim (λ own. (suc k, owned_own front n k e o i own (order.enabled s))) (λ other. (n, owned_other front n k e o i other)) (cases_eq e.thread q) in
+      ⊎_elim (λ own. (suc k, owned_own front n k e o i own (order.in_turn s))) (λ other. (n, owned_other front n k e o i other)) (cases_eq e.thread q) in
       let r = owned_from (front ++ (k ∷ [])) back more.0 (subst (Orderly t) (sym joined) order) more.1 in
       (r.0, subst (λ xs. Owned xs r.0) joined r.1)
 
   pub owned : (xs : List ℕ) → Orderly t xs → (n : ℕ) × Owned xs n
   owned xs order = owned_from [] xs 0 order (record { has = λ m e i r b. absurd (omega arith); only = λ m e i r b. absurd (Memᴰ.not-nil b); depths = λ l. refl })
 
--- before an event that is enabled after the list, its thread is as deep as in the trace
-pub depth_enabled : (t : List Event) (xs : List ℕ) (k : ℕ) (e : Event) → Orderly t xs → At t k e → Enabled t xs k → (l : ℕ)
+-- before an event that is the next of its thread, the thread is as deep as in the trace
+pub depth_in_turn : (t : List Event) (xs : List ℕ) (k : ℕ) (e : Event) → Orderly t xs → At t k e → InTurn t xs k → (l : ℕ)
     → depth e.thread l (picked t xs) ≡ depth e.thread l (take k t)
-depth_enabled t xs k e order i en l = let (n, o) = owned t e.thread xs order in same_depth t e.thread xs n k e o i refl en l
+depth_in_turn t xs k e order i en l = let (n, o) = owned t e.thread xs order in same_depth t e.thread xs n k e o i refl en l
 
 pub depth_kept : DepthKept
 depth_kept t σ xs ys k e c split i =
     let s : Stands k σ = at_split xs ys split in
     let o = correct_orderly t σ c in
-    depth_enabled t xs k e (orderly_front t σ o s) i (o.enabled s) e.subject
+    depth_in_turn t xs k e (orderly_front t σ o s) i (o.in_turn s) e.subject

@@ -1,9 +1,11 @@
 -- The events at a list of positions, part by part.
-use Rattle.std.proofs.Common.{◌≡◌, ℕ, List, [], ◌∷◌, ◌++◌, Some, None, Option, refl, ap, ◌∙◌}
+use Rattle.std.proofs.Common.{◌≡◌, ℕ, List, [], ◌∷◌, ◌++◌, Some, None, Option, sym, refl, ap, ◌∙◌, ⊎_elim}
+use mathlib.Core.List.Memᴰ
+use mathlib.Core.List.{Memᴰ}
 use Rattle.std.specs.List.{slice_get}
 use Rattle.trace.specs.declared.event.Event.{Event}
 use Rattle.trace.specs.Traces.{At, at_start, standing_after, Allowed, AdmitsFrom, Admits}
-use Rattle.trace.specs.Reorderings.{picked}
+use Rattle.trace.specs.Reorderings.{picked, take_in}
 use Rattle.trace.proofs.Places.{Stands, at_split}
 use Rattle.trace.proofs.Holders.{admits_append, admits_push}
 
@@ -41,3 +43,14 @@ module _ (t : List Event) where
   pub picked_push : (xs : List ℕ) (k : ℕ) (e : Event) → At t k e → Admits (picked t xs) → Allowed (standing_after (picked t xs)) e
       → Admits (picked t (xs ++ (k ∷ [])))
   picked_push xs k e i a b = rw (picked_at (at_split xs [] refl) e i) (admits_push at_start (picked t xs) e a b)
+
+  -- an event at one of the positions of a list stands at one of them
+  pub picked_member : (xs : List ℕ) (e : Event) → Memᴰ e (picked t xs) → (k : ℕ) × Memᴰ k xs × At t k e
+  picked_member [] e m = absurd (Memᴰ.not-nil m)
+  picked_member (k ∷ xs) e m = of_event (slice_get t k) refl m (picked_member xs e)
+    where
+      of_event : (o : Option Event) → slice_get t k ≡ o → Memᴰ e (take_in o (picked t xs))
+          → (Memᴰ e (picked t xs) → (n : ℕ) × Memᴰ n xs × At t n e) → (n : ℕ) × Memᴰ n (k ∷ xs) × At t n e
+      of_event None i m rest = let r = rest m in (r.0, Memᴰ.tail r.1, r.2)
+      of_event (Some f) i m rest =
+          ⊎_elim (λ q. (k, Memᴰ.head refl, i ∙ ap Some (sym q))) (λ n. let r = rest n in (r.0, Memᴰ.tail r.1, r.2)) (Memᴰ.cases_cons m)

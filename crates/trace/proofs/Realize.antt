@@ -7,7 +7,8 @@ use Rattle.trace.specs.declared.kind.Kind.TheVariants.{Read, Write}
 use Rattle.trace.specs.Traces.{At, standing_after, Allowed, Admits, LastWrite}
 use Rattle.trace.specs.Reorderings.{picked, LatestWrite, Correct, SyncPreserving, Ascending}
 use Rattle.trace.specs.Cuts.{Positions, In, Cut, Closed, SyncWants, listed}
-use Rattle.trace.specs.Cuts.SyncWants.{last_write, earlier_release}
+use Rattle.trace.specs.Cuts.SyncWants.{of_threads, last_write, earlier_release}
+use Rattle.trace.specs.Cuts.ThreadWants.{spawn, awaited_spawn, awaited_last}
 use Rattle.trace.proofs.Events.{at_some}
 use Rattle.trace.proofs.Places.{Stands, at_split, stands, is_member, of_back}
 use Rattle.trace.proofs.Ascending.{below, above, greater, ascending_front}
@@ -15,6 +16,7 @@ use Rattle.trace.proofs.Listing.{listed_in, listed_out, listed_within, listed_as
 use Rattle.trace.proofs.Lookups.{last_write_from}
 use Rattle.trace.proofs.Picked.{picked_push}
 use Rattle.trace.proofs.Clashes.{allowed_or}
+use Rattle.trace.proofs.Orders.{awaited_in}
 
 module _ (t : List Event) (c : Positions) (admits : Admits t) (cut : Cut t c) (closed : Closed SyncWants t c) where
   -- each event of the cut is allowed after the listing of the earlier ones: the release of an acquire that it would clash with is wanted
@@ -89,6 +91,13 @@ module _ (t : List Event) (c : Positions) (admits : Admits t) (cut : Cut t c) (c
     once = λ xs ys k e i. let b = below (at_split xs ys e) (listed_ascending c (length t)) k i in omega arith;
     thread_prefix = λ xs ys d k e h. let s : Stands k (listed c (length t)) = at_split xs ys e in
         listed_front c (length t) s d (cut.first_events d k h (listed_within c (length t) k (is_member s)).0) h.before;
+    spawns = λ xs ys m k e r. let s : Stands k (listed c (length t)) = at_split xs ys e in
+        listed_front c (length t) s m (closed m (of_threads (spawn (listed_within c (length t) k (is_member s)).0 r))) r.before;
+    awaited_spawns = λ xs ys m k e r. let s : Stands k (listed c (length t)) = at_split xs ys e in
+        listed_front c (length t) s m (closed m (of_threads (awaited_spawn (listed_within c (length t) k (is_member s)).0 r))) r.before;
+    awaited_events = λ xs ys d k e r. let s : Stands k (listed c (length t)) = at_split xs ys e in
+        listed_front c (length t) s d (awaited_in t c cut k (listed_within c (length t) k (is_member s)).0
+        (λ l a. closed l (of_threads (awaited_last (listed_within c (length t) k (is_member s)).0 a))) d r) r.before;
     admitted = listing_admitted (length t) (omega arith);
     reads = λ xs ys k e u i q w. (latest_is_last (at_split xs ys u) e i q w, last_is_latest (at_split xs ys u) e i q w);
   }

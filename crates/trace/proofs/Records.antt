@@ -4,12 +4,14 @@ use mathlib.Core.Logic.{dite, dif_pos}
 use native.Mathlib.Decide.{dec_lt}
 use denote.Struct.Props.{props}
 use Rattle.std.specs.List.{range_with_len}
+use Rattle.std.specs.Option.{ok_or}
+use Rattle.trace.specs.declared.record.RecordFault.{RecordFault}
 use Rattle.std.proofs.lemmas.List.FromFn.{fill_by_all}
 use Rattle.std.proofs.lemmas.Bool.Decides.{nat_tests}
 use Rattle.std.proofs.lemmas.Bool.{cases_eq, eq-eqb, ne_eqb}
 use Rattle.trace.specs.declared.event.Event.{Event}
 use Rattle.trace.specs.declared.kind.Kind.{Kind}
-use Rattle.trace.specs.declared.kind.Kind.TheVariants.{Read, Write, Acquire, Release}
+use Rattle.trace.specs.declared.kind.Kind.TheVariants.{Read, Write, Acquire, Release, Spawn, Join}
 use Rattle.trace.specs.Limits.{threads, subjects}
 use Rattle.trace.specs.Records.{number, kind_of, event_of, event_if_known, meaning, record_of}
 
@@ -27,6 +29,8 @@ kind_back Read = refl
 kind_back Write = refl
 kind_back Acquire = refl
 kind_back Release = refl
+kind_back Spawn = refl
+kind_back Join = refl
 
 -- the numbers of two and of four bytes are those that the bytes were taken from
 two_bytes : (n : ℕ) → n % 256 + n / 256 * 256 ≡ n
@@ -75,6 +79,8 @@ kind_number n Read is = grind (arith, nat_tests)
 kind_number n Write is = grind (arith, nat_tests)
 kind_number n Acquire is = grind (arith, nat_tests)
 kind_number n Release is = grind (arith, nat_tests)
+kind_number n Spawn is = grind (arith, nat_tests)
+kind_number n Join is = grind (arith, nat_tests)
 
 -- and the bytes of a number made of two or of four bytes are these
 pub record TwoBytes (a b n : ℕ) : Type 0 where
@@ -113,3 +119,13 @@ meaning_back bytes e small is = ⊎_elim eight (λ n. absurd (let b = ne_eqb (le
     eight l =
         let all = fill_by_all (λ i. get_or bytes i 0) bytes 8 0 l (λ k h. refl) in
         known (kind_of (get_or bytes 0 0)) refl (let b = eq-eqb (length bytes) 8 l in rw b at is) ∙ sym all
+
+-- eight bytes whose first is the number of a kind mean what the others say
+pub meaning_known : (bytes : List ℕ) (k : Kind) → length bytes ≡ 8 → kind_of (get_or bytes 0 0) ≡ Some k
+    → meaning bytes ≡ event_of k (get_or bytes 1 0) (get_or bytes 2 0 + get_or bytes 3 0 * 256)
+    (get_or bytes 4 0 + get_or bytes 5 0 * 256 + get_or bytes 6 0 * 65536 + get_or bytes 7 0 * 16777216)
+meaning_known bytes k long known = rw (eq-eqb (length bytes) 8 long, known) refl
+
+pub kind_found : (o : Option Kind) (f : RecordFault) (k : Kind) → Ok k ≡ ok_or o f → o ≡ Some k
+kind_found None f k q = absurd (grind arith)
+kind_found (Some j) f k q = let same : k ≡ j = cc in ap (λ (x : Kind). Some x) (sym same)

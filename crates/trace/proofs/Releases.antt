@@ -1,16 +1,16 @@
 -- In an admitted trace an outer acquire finds its lock free, so the release of an earlier acquire of the lock stands before it; and likewise in a
 -- list of positions.
-use Rattle.std.proofs.Common.{◌≡◌, ℕ, suc, ◌<◌, List, [], ◌∷◌, take, None, sym, refl, ap, ◌∙◌, arith}
+use Rattle.std.proofs.Common.{◌≡◌, ℕ, suc, ◌<◌, List, [], ◌∷◌, take, None, sym, refl, ap, ◌∙◌, subst, arith}
 use mathlib.Core.List.{Memᴰ}
 use Rattle.trace.specs.declared.event.Event.{Event}
 use Rattle.trace.specs.declared.kind.Kind.TheVariants.{Acquire}
-use Rattle.trace.specs.Traces.{At, at_start, standing_after, Allowed, Admits, depth, Outer, ReleaseOf}
-use Rattle.trace.specs.Reorderings.{picked, Enabled}
-use Rattle.trace.proofs.Holders.{admits_append, admits_take}
+use Rattle.trace.specs.Traces.{At, at_start, standing_after, lock_refusal, Allowed, Admits, depth, Outer, ReleaseOf}
+use Rattle.trace.specs.Reorderings.{picked}
+use Rattle.trace.proofs.Holders.{admits_append, admits_take, lets}
 use Rattle.trace.proofs.Depths.{held_as_deep, held_deep, acquire_outside}
 use Rattle.trace.proofs.Events.{at_same}
 use Rattle.trace.proofs.Sections.{take_next, freed_before, release_only}
-use Rattle.trace.proofs.Owning.{Orderly, owned, depth_enabled}
+use Rattle.trace.proofs.Owning.{InTurn, Orderly, owned, depth_in_turn}
 
 -- an event of an admitted trace is allowed after those before it
 pub allowed_in : (t : List Event) (k : ℕ) (e : Event) → Admits t → At t k e → Allowed (standing_after (take k t)) e
@@ -18,9 +18,12 @@ allowed_in t k e ok i = ((admits_append at_start (take k t) (e ∷ [])).0 (rw (t
 
 module _ (us : List Event) (ok : Admits us) (f : Event) (allowed : Allowed (standing_after us) f) (kind : f.kind ≡ Acquire)
     (out : depth f.thread f.subject us ≡ 0) where
+  lock_lets : lock_refusal Acquire f.thread ((standing_after us).holders f.subject) ≡ None
+  lock_lets = subst (λ x. lock_refusal x f.thread ((standing_after us).holders f.subject) ≡ None) kind (lets (standing_after us) f allowed).lock
+
   -- an acquire that is allowed to a thread outside the lock finds the lock free
   pub free_then : (standing_after us).holders f.subject ≡ None
-  free_then = acquire_outside f.thread _ (rw kind at allowed) (held_as_deep us ok f.thread f.subject ∙ out) (held_deep us ok f.subject)
+  free_then = acquire_outside f.thread _ lock_lets (held_as_deep us ok f.thread f.subject ∙ out) (held_deep us ok f.subject)
 
   -- so no thread is in the lock
   pub none_in : (q : ℕ) → depth q f.subject us ≡ 0
@@ -47,12 +50,12 @@ module _ (t : List Event) (a b : ℕ) (e f : Event) (ok : Admits t) (order : a <
       omega arith
 
 -- of an outer acquire among positions after which another of the lock may come next, the release is among them
-pub release_among : (t : List Event) (xs : List ℕ) → Orderly t xs → Admits (picked t xs) → (b : ℕ) (f : Event) → Outer t b f → Enabled t xs b
+pub release_among : (t : List Event) (xs : List ℕ) → Orderly t xs → Admits (picked t xs) → (b : ℕ) (f : Event) → Outer t b f → InTurn t xs b
     → Allowed (standing_after (picked t xs)) f → (a w : ℕ) (e : Event) → Memᴰ a xs → Outer t a e → e.subject ≡ f.subject → ReleaseOf t a w
     → Memᴰ w xs
-release_among t xs order ok b f p enabled allowed a w e member o same rel =
+release_among t xs order ok b f p turn allowed a w e member o same rel =
     let (n, own) = owned t e.thread xs order in
-    let out = depth_enabled t xs b f order p.is enabled f.subject ∙ p.outside in
+    let out = depth_in_turn t xs b f order p.is turn f.subject ∙ p.outside in
     let none = rw (← same) at (none_in (picked t xs) ok f allowed p.is_acquire out e.thread) in
     let (r, is, before) = freed_before t a e o n (own.only a e o.is refl member) (sym (own.depths e.subject) ∙ none) in
     let one : w ≡ r = release_only t a e o w r rel is in

@@ -5,7 +5,7 @@ use Rattle.std.proofs.lemmas.Bool.{cases_eq, cases_lt, cases_order, eq-eqb, ne_e
 use Rattle.std.proofs.lemmas.List.Sums.{fold_push}
 use Rattle.trace.specs.declared.event.Event.{Event}
 use Rattle.trace.specs.declared.kind.Kind.{Kind}
-use Rattle.trace.specs.declared.kind.Kind.TheVariants.{Read, Write, Acquire, Release}
+use Rattle.trace.specs.declared.kind.Kind.TheVariants.{Read, Write, Acquire, Release, Spawn, Join}
 use Rattle.trace.specs.Traces.{At, deeper, depth_with, depth, depth_at, Outer, Frees, ReleaseOf}
 use Rattle.trace.specs.Lookups.{depth_past, freeing}
 use Rattle.trace.proofs.Events.{at_same}
@@ -90,6 +90,8 @@ module _ (p l : ℕ) where
             of_kind Read q = absurd (let z = rw q at goes in omega arith)
             of_kind Write q = absurd (let z = rw q at goes in omega arith)
             of_kind Acquire q = absurd (let z = rw q at goes in omega arith)
+            of_kind Spawn q = absurd (let z = rw q at goes in omega arith)
+            of_kind Join q = absurd (let z = rw q at goes in omega arith)
             of_kind Release q =
                 let z : before (suc k) ≡ pred (before k) = rw q at goes in
                 let once : before k ≡ 1 = last_out (before k) inside (sym z ∙ out) in
@@ -119,6 +121,8 @@ module _ (p l : ℕ) where
             of_kind Read q = absurd (let z = rw q at goes in omega arith)
             of_kind Write q = absurd (let z = rw q at goes in omega arith)
             of_kind Release q = absurd (let z = rw (q, out) at goes in omega arith)
+            of_kind Spawn q = absurd (let z = rw q at goes in omega arith)
+            of_kind Join q = absurd (let z = rw q at goes in omega arith)
             of_kind Acquire q = record { is = i; is_acquire = q; outside = level ∙ out }
 
     -- events of other threads leave the depth

@@ -7,7 +7,7 @@ use Rattle.trace.specs.Traces.{Previous}
 use Rattle.trace.specs.Lookups.{previous, after_some, previous_events}
 use Rattle.trace.specs.Cuts.{SeedsOf}
 use Rattle.trace.proofs.Events.{at_inside}
-use Rattle.trace.proofs.Lookups.{previous_found}
+use Rattle.trace.proofs.Lookups.{previous_at, previous_found}
 
 module _ (t : List Event) where
   -- each of them is the previous event of one of the events
@@ -38,4 +38,4 @@ module _ (t : List Event) where
 
   -- they stand in the trace
   pub seeds_within : (es : List ℕ) (s : ℕ) → Memᴰ s (previous_events t es) → s < length t
-  seeds_within es s m = let h = sound es s m in at_inside t s h.2.earlier.first h.2.earlier.first_is
+  seeds_within es s m = let h = sound es s m in let p = previous_at t h.0 s h.2 in at_inside t s p.0 p.1

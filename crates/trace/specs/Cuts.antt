@@ -2,7 +2,7 @@
 use Rattle.std.specs.Prelude.{◌≡◌, ℕ, zero, suc, ◌<◌, Bool, true, false, List, [], ◌∷◌, ◌++◌, length}
 use mathlib.Core.List.{Memᴰ}
 use Rattle.trace.specs.declared.event.Event.{Event}
-use Rattle.trace.specs.Traces.{Admits, Outer, Frees, EarlierInThread, Previous, LastWrite, ReleaseOf}
+use Rattle.trace.specs.Traces.{Admits, Outer, Frees, EarlierInThread, SpawnOf, AwaitedSpawn, LastAwaited, Previous, LastWrite, ReleaseOf}
 
 -- a set of positions
 abbrev pub Positions : Type 0
@@ -55,14 +55,22 @@ pub data Reached (wants : Wants) (t : List Event) (seeds : List ℕ) : ℕ → T
 abbrev pub AllReached : Wants → List Event → List ℕ → Positions → Type 0
 AllReached wants t ss c = (k : ℕ) → In k c → Reached wants t ss k
 
--- the sync rule: a read wants its last write, and of two outer acquires of one lock the first wants its release
+-- what every rule wants: an event the spawn of its thread, and a join the spawn and the last event of the thread that it awaits
+pub data ThreadWants (t : List Event) (c : Positions) (w : ℕ) : Type 0 where
+  spawn : {k : ℕ} → In k c → SpawnOf t w k → ThreadWants t c w
+  awaited_spawn : {k : ℕ} → In k c → AwaitedSpawn t w k → ThreadWants t c w
+  awaited_last : {k : ℕ} → In k c → LastAwaited t w k → ThreadWants t c w
+
+-- the sync rule: that, and a read wants its last write, and of two outer acquires of one lock the first wants its release
 pub data SyncWants (t : List Event) (c : Positions) (w : ℕ) : Type 0 where
+  of_threads : ThreadWants t c w → SyncWants t c w
   last_write : {k : ℕ} → In k c → LastWrite t k w → SyncWants t c w
   earlier_release : {a b : ℕ} {e f : Event} → In a c → In b c → a < b → Outer t a e → Outer t b f → e.subject ≡ f.subject
       → ReleaseOf t a w → SyncWants t c w
 
--- the rule of happens-before: an outer acquire wants each earlier release that freed its lock
+-- the rule of happens-before: what every rule wants, and an outer acquire wants each earlier release that freed its lock
 pub data HappensBeforeWants (t : List Event) (c : Positions) (w : ℕ) : Type 0 where
+  of_threads : ThreadWants t c w → HappensBeforeWants t c w
   release_before : {a : ℕ} {e f : Event} → In a c → w < a → Outer t a e → Frees t w f → e.subject ≡ f.subject → HappensBeforeWants t c w
 
 -- the rule of schedulable happens-before: the same, and a read wants its last write

@@ -3,7 +3,7 @@ use Rattle.std.specs.Prelude.{ℕ, Some, None, Ok, Err, Option, Result}
 use Rattle.trace.specs.declared.record.RecordFault.{RecordFault}
 use Rattle.trace.specs.declared.record.RecordFault.TheVariants.{Length, Kind, Thread, Subject}
 use Rattle.trace.specs.declared.locks.TraceFault.{TraceFault}
-use Rattle.trace.specs.declared.locks.TraceFault.TheVariants.{AlreadyHeld, NotHolder, TooDeep}
+use Rattle.trace.specs.declared.locks.TraceFault.TheVariants.{AlreadyHeld, NotHolder, TooDeep, NotStartable, Ended}
 
 -- the number of a refusal by the codec
 abbrev pub record_number : RecordFault → ℕ
@@ -17,6 +17,8 @@ abbrev pub trace_number : TraceFault → ℕ
 trace_number AlreadyHeld = 5
 trace_number NotHolder = 6
 trace_number TooDeep = 13
+trace_number NotStartable = 14
+trace_number Ended = 15
 
 -- an answer, with a refusal told in other terms, as by its number
 abbrev pub told : {A F G : Type 0} → (F → G) → Result A F → Result A G

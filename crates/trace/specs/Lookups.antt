@@ -5,7 +5,7 @@ use mathlib.Core.List.{Memᴰ}
 use Rattle.std.specs.List.{slice_get}
 use Rattle.trace.specs.declared.event.Event.{Event}
 use Rattle.trace.specs.declared.kind.Kind.{Kind}
-use Rattle.trace.specs.declared.kind.Kind.TheVariants.{Read, Write, Acquire, Release}
+use Rattle.trace.specs.declared.kind.Kind.TheVariants.{Read, Write, Acquire, Release, Spawn, Join}
 use Rattle.trace.specs.Traces.{depth_with, Outer, Previous, LastWrite, ReleaseOf}
 use Rattle.trace.specs.Reorderings.{Ascending}
 use Rattle.trace.specs.Cuts.{Positions, In, SeedsOf, listed}
@@ -26,6 +26,8 @@ reading Read = true
 reading Write = false
 reading Acquire = false
 reading Release = false
+reading Spawn = false
+reading Join = false
 
 -- whether a kind is Write
 abbrev pub writing : Kind → Bool
@@ -33,6 +35,17 @@ writing Read = false
 writing Write = true
 writing Acquire = false
 writing Release = false
+writing Spawn = false
+writing Join = false
+
+-- whether a kind is Spawn
+abbrev pub spawning : Kind → Bool
+spawning Read = false
+spawning Write = false
+spawning Acquire = false
+spawning Release = false
+spawning Spawn = true
+spawning Join = false
 
 -- an event of the thread p
 abbrev pub of_thread : ℕ → Event → Bool
@@ -42,14 +55,23 @@ of_thread p e = e.thread == p
 abbrev pub writes : ℕ → Event → Bool
 writes x e = writing e.kind && e.subject == x
 
+-- a spawn of the thread p
+abbrev pub spawns : ℕ → Event → Bool
+spawns p e = spawning e.kind && e.subject == p
+
+-- a position, and where there is none another
+abbrev pub or_found : Option ℕ → Option ℕ → Option ℕ
+or_found None other = other
+or_found (Some k) other = Some k
+
 -- a lookup that starts from an event, if there is one
 abbrev pub from_event : (Event → Option ℕ) → Option Event → Option ℕ
 from_event find None = None
 from_event find (Some e) = find e
 
--- the last position before k where the thread of k has an event
+-- the last position before k where the thread of k has an event, and where there is none the last where its thread is spawned
 abbrev pub previous : List Event → ℕ → Option ℕ
-previous t k = from_event (λ e. latest (of_thread e.thread) t k) (slice_get t k)
+previous t k = from_event (λ e. or_found (latest (of_thread e.thread) t k) (latest (spawns e.thread) t k)) (slice_get t k)
 
 -- the list ks after a position, if there is one
 abbrev pub after_some : Option ℕ → List ℕ → List ℕ

@@ -5,7 +5,7 @@ use Rattle.std.proofs.Math.Logic.{dite}
 use Rattle.std.proofs.Math.Decide.{dec_lt}
 use Rattle.trace.specs.declared.event.Event.{Event}
 use Rattle.trace.specs.declared.kind.Kind.{Kind}
-use Rattle.trace.specs.declared.kind.Kind.TheVariants.{Read, Write, Acquire, Release}
+use Rattle.trace.specs.declared.kind.Kind.TheVariants.{Read, Write, Acquire, Release, Spawn, Join}
 use Rattle.trace.specs.Limits.{threads, subjects}
 
 -- the number of a kind
@@ -14,10 +14,13 @@ number Read = 1
 number Write = 2
 number Acquire = 3
 number Release = 4
+number Spawn = 5
+number Join = 6
 
 -- the kind with a number
 abbrev pub kind_of : ℕ → Option Kind
-kind_of n = cond (n == 1) (Some Read) (cond (n == 2) (Some Write) (cond (n == 3) (Some Acquire) (cond (n == 4) (Some Release) None)))
+kind_of n = cond (n == 1) (Some Read) (cond (n == 2) (Some Write) (cond (n == 3) (Some Acquire)
+    (cond (n == 4) (Some Release) (cond (n == 5) (Some Spawn) (cond (n == 6) (Some Join) None)))))
 
 -- the event of these parts; refused with 3 where the thread is not within its limit, else with 4 where the subject is not
 abbrev pub event_of : Kind → ℕ → ℕ → ℕ → Result Event ℕ

@@ -4,10 +4,10 @@ use mathlib.Core.List.{Memᴰ}
 use Rattle.std.specs.List.{slice_get}
 use Rattle.trace.specs.declared.event.Event.{Event}
 use Rattle.trace.specs.declared.kind.Kind.TheVariants.{Read, Write}
-use Rattle.trace.specs.Traces.{At, Admits, Outer, EarlierInThread, LastWrite}
+use Rattle.trace.specs.Traces.{At, Admits, Outer, EarlierInThread, SpawnOf, AwaitedSpawn, AwaitedEvent, LastWrite}
 
 -- the list es, with an event before it if there is one
-abbrev take_in : Option Event → List Event → List Event
+abbrev pub take_in : Option Event → List Event → List Event
 take_in None es = es
 take_in (Some e) es = e ∷ es
 
@@ -32,12 +32,15 @@ pub record LatestWrite (t : List Event) (xs : List ℕ) (subject w : ℕ) : Type
   pub same_variable : write.subject ≡ subject
   pub none_later : (m : ℕ) (e : Event) → Memᴰ m back → At t m e → e.kind ≡ Write → e.subject ≢ subject
 
--- a correct reordering: positions of the trace, each once and after the earlier events of its thread, such that the trace check admits their
--- events and each read has its last write as in the trace
+-- a correct reordering: positions of the trace, each once and after the earlier events of its thread and its spawn, a join after the spawn and the
+-- events of the thread that it awaits, such that the trace check admits their events and each read has its last write as in the trace
 pub record Correct (t : List Event) (σ : List ℕ) : Type 0 where
   pub in_trace : (k : ℕ) → Memᴰ k σ → (e : Event) × At t k e
   pub once : (xs ys : List ℕ) (k : ℕ) → σ ≡ xs ++ (k ∷ ys) → Memᴰ k xs → ⊥
   pub thread_prefix : (xs ys : List ℕ) (d k : ℕ) → σ ≡ xs ++ (k ∷ ys) → EarlierInThread t d k → Memᴰ d xs
+  pub spawns : (xs ys : List ℕ) (s k : ℕ) → σ ≡ xs ++ (k ∷ ys) → SpawnOf t s k → Memᴰ s xs
+  pub awaited_spawns : (xs ys : List ℕ) (s k : ℕ) → σ ≡ xs ++ (k ∷ ys) → AwaitedSpawn t s k → Memᴰ s xs
+  pub awaited_events : (xs ys : List ℕ) (d k : ℕ) → σ ≡ xs ++ (k ∷ ys) → AwaitedEvent t d k → Memᴰ d xs
   pub admitted : Admits (picked t σ)
   pub reads : (xs ys : List ℕ) (k : ℕ) (e : Event) → σ ≡ xs ++ (k ∷ ys) → At t k e → e.kind ≡ Read → (w : ℕ)
       → (LatestWrite t xs e.subject w → LastWrite t k w) × (LastWrite t k w → LatestWrite t xs e.subject w)
@@ -47,11 +50,12 @@ pub record SyncPreserving (t : List Event) (σ : List ℕ) : Type 0 where
   pub in_order : (xs ys : List ℕ) (a b : ℕ) (e f : Event) → σ ≡ xs ++ (b ∷ ys) → Memᴰ a xs → Outer t a e → Outer t b f
       → e.subject ≡ f.subject → a < b
 
--- k is enabled after σ: σ lacks it, and has what its thread does before it. A position past the trace is enabled after every list of positions of
+-- k is enabled after σ: σ lacks it, and has what its thread does before it and the spawn of its thread. A position past the trace is enabled after every list of positions of
 -- the trace, so the calls of a session ask about positions of the trace alone
 pub record Enabled (t : List Event) (σ : List ℕ) (k : ℕ) : Type 0 where
   pub outside : Memᴰ k σ → ⊥
   pub ready : (d : ℕ) → EarlierInThread t d k → Memᴰ d σ
+  pub spawned : (s : ℕ) → SpawnOf t s k → Memᴰ s σ
 
 -- σ is correct and sync-preserving, and each of the events es is enabled after it
 pub record Leaves (t : List Event) (es : List ℕ) (σ : List ℕ) : Type 0 where

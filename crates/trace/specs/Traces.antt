@@ -1,10 +1,11 @@
 -- Traces, which of them the trace check admits, and how their events relate. A trace is a list of events; positions in it count from 0.
-use Rattle.std.specs.Prelude.{◌≡◌, ℕ, suc, pred, ◌+◌, ◌<◌, ◌&&◌, cond, List, [], ◌∷◌, take, fold, Some, None, Option, ◌==◌, ◌≢◌, nat_lt}
+use Rattle.std.specs.Prelude.{◌≡◌, ℕ, suc, pred, ◌+◌, ◌<◌, true, false, ◌&&◌, ◌||◌, cond, List, [], ◌∷◌, take, fold, Some, None, Option, ◌==◌, ◌≢◌, nat_lt}
 use Rattle.std.specs.List.{slice_get}
 use Rattle.trace.specs.declared.event.Event.{Event}
 use Rattle.trace.specs.declared.hold.Hold.{Hold}
+use Rattle.trace.specs.declared.life.Life.{Life}
 use Rattle.trace.specs.declared.kind.Kind.{Kind}
-use Rattle.trace.specs.declared.kind.Kind.TheVariants.{Read, Write, Acquire, Release}
+use Rattle.trace.specs.declared.kind.Kind.TheVariants.{Read, Write, Acquire, Release, Spawn, Join}
 use Rattle.trace.specs.Limits.{deepest}
 
 -- the event at position k of t is e
@@ -16,17 +17,22 @@ At t k e = slice_get t k ≡ Some e
 abbrev pub Holders : Type 0
 Holders = ℕ → Option Hold
 
--- what the trace check keeps: who holds each lock
+-- what is known of each thread: whether it has an event, whether a spawn or a join named it, and whether a join did
+abbrev pub Lives : Type 0
+Lives = ℕ → Life
+
+-- what the trace check keeps: who holds each lock, and what is known of each thread
 pub record Standing : Type 0 where
   pub holders : Holders
+  pub lives : Lives
 
--- no thread holds a lock
+-- no thread holds a lock, and of no thread anything is known
 abbrev pub at_start : Standing
-at_start = record { holders = λ l. None }
+at_start = record { holders = λ l. None; lives = λ p. record { begun = false; named = false; joined = false } }
 
--- the holders h, with the lock l held so
-abbrev pub give : Holders → ℕ → Option Hold → Holders
-give h l hold m = cond (m == l) hold (h m)
+-- a table, with another value at one place
+abbrev pub give : {A : Type 0} → (ℕ → A) → ℕ → A → ℕ → A
+give table at x m = cond (m == at) x (table m)
 
 -- the hold of a lock that a thread has acquired once more
 abbrev pub entered : ℕ → Option Hold → Option Hold
@@ -44,10 +50,25 @@ turn Read thread subject h = h
 turn Write thread subject h = h
 turn Acquire thread subject h = give h subject (entered thread (h subject))
 turn Release thread subject h = give h subject (left (h subject))
+turn Spawn thread subject h = h
+turn Join thread subject h = h
+
+-- what is known of the threads where one has an event
+abbrev pub begin : ℕ → Lives → Lives
+begin thread lives = give lives thread (record (lives thread) { begun = true })
+
+-- and where an event of a kind is on a subject
+abbrev pub name : Kind → ℕ → Lives → Lives
+name Read subject lives = lives
+name Write subject lives = lives
+name Acquire subject lives = lives
+name Release subject lives = lives
+name Spawn subject lives = give lives subject (record (lives subject) { named = true })
+name Join subject lives = give lives subject (record { begun = (lives subject).begun; named = true; joined = true })
 
 -- what the trace check keeps after one event more
 abbrev pub after_event : Standing → Event → Standing
-after_event s e = record { holders = turn e.kind e.thread e.subject s.holders }
+after_event s e = record { holders = turn e.kind e.thread e.subject s.holders; lives = name e.kind e.subject (begin e.thread s.lives) }
 
 -- and after a list of events
 abbrev pub after : Standing → List Event → Standing
@@ -67,10 +88,33 @@ lock_refusal Acquire thread None = None
 lock_refusal Acquire thread (Some h) = cond (h.thread == thread) (cond (nat_lt h.depth deepest) None (Some 13)) (Some 5)
 lock_refusal Release thread None = Some 6
 lock_refusal Release thread (Some h) = cond (h.thread == thread) None (Some 6)
+lock_refusal Spawn thread hold = None
+lock_refusal Join thread hold = None
+
+-- why it turns away any event of a thread of which so much is known: 15 where the thread was joined
+abbrev pub ended_refusal : Life → Option ℕ
+ended_refusal life = cond life.joined (Some 15) None
+
+-- and an event of a kind, by a thread, on a thread of which so much is known: 14 for a spawn or a join of its own thread, and for a spawn of a thread
+-- that has an event, or that an earlier spawn or join named
+abbrev pub thread_refusal : Kind → ℕ → ℕ → Life → Option ℕ
+thread_refusal Read thread subject life = None
+thread_refusal Write thread subject life = None
+thread_refusal Acquire thread subject life = None
+thread_refusal Release thread subject life = None
+thread_refusal Spawn thread subject life = cond (thread == subject || (life.begun || life.named)) (Some 14) None
+thread_refusal Join thread subject life = cond (thread == subject) (Some 14) None
+
+-- the first of two refusals
+abbrev pub or_else : Option ℕ → Option ℕ → Option ℕ
+or_else None next = next
+or_else (Some n) next = Some n
 
 -- why the trace check turns the event e away, if it does
 abbrev pub trace_refusal : Standing → Event → Option ℕ
-trace_refusal s e = lock_refusal e.kind e.thread (s.holders e.subject)
+trace_refusal s e =
+    or_else (ended_refusal (s.lives e.thread))
+    (or_else (thread_refusal e.kind e.thread e.subject (s.lives e.subject)) (lock_refusal e.kind e.thread (s.holders e.subject)))
 
 -- the trace check lets the event e come next
 abbrev pub Allowed : Standing → Event → Type 0
@@ -91,6 +135,8 @@ deeper Read n = n
 deeper Write n = n
 deeper Acquire n = suc n
 deeper Release n = pred n
+deeper Spawn n = n
+deeper Join n = n
 
 -- how deep a thread is in a lock after one event more
 abbrev pub depth_with : ℕ → ℕ → ℕ → Event → ℕ
@@ -125,10 +171,46 @@ pub record EarlierInThread (t : List Event) (d k : ℕ) : Type 0 where
   pub second_is : At t k second
   pub same_thread : first.thread ≡ second.thread
 
--- d is the previous event of k: it comes earlier in the same thread, with none of that thread between
-pub record Previous (t : List Event) (k d : ℕ) : Type 0 where
-  pub earlier : EarlierInThread t d k
-  pub none_between : (m : ℕ) → d < m → EarlierInThread t m k → ⊥
+-- s is an earlier event that spawns the thread of k
+pub record SpawnOf (t : List Event) (s k : ℕ) : Type 0 where
+  pub before : s < k
+  pub spawn : Event
+  pub event : Event
+  pub spawn_is : At t s spawn
+  pub event_is : At t k event
+  pub is_spawn : spawn.kind ≡ Spawn
+  pub names : spawn.subject ≡ event.thread
+
+-- k is a join, and s an earlier event that spawns the thread that it awaits
+pub record AwaitedSpawn (t : List Event) (s k : ℕ) : Type 0 where
+  pub before : s < k
+  pub spawn : Event
+  pub join : Event
+  pub spawn_is : At t s spawn
+  pub join_is : At t k join
+  pub is_spawn : spawn.kind ≡ Spawn
+  pub is_join : join.kind ≡ Join
+  pub names : spawn.subject ≡ join.subject
+
+-- k is a join, and d an earlier event of the thread that it awaits
+pub record AwaitedEvent (t : List Event) (d k : ℕ) : Type 0 where
+  pub before : d < k
+  pub event : Event
+  pub join : Event
+  pub event_is : At t d event
+  pub join_is : At t k join
+  pub is_join : join.kind ≡ Join
+  pub names : event.thread ≡ join.subject
+
+-- and the last one
+pub record LastAwaited (t : List Event) (d k : ℕ) : Type 0 where
+  pub awaited : AwaitedEvent t d k
+  pub none_later : (m : ℕ) → d < m → AwaitedEvent t m k → ⊥
+
+-- d is the previous event of k: the latest earlier one of its thread, and where there is none the latest earlier spawn of its thread
+pub data Previous (t : List Event) (k d : ℕ) : Type 0 where
+  in_thread : EarlierInThread t d k → ((m : ℕ) → d < m → EarlierInThread t m k → ⊥) → Previous t k d
+  by_spawn : SpawnOf t d k → ((m : ℕ) → EarlierInThread t m k → ⊥) → ((m : ℕ) → d < m → SpawnOf t m k → ⊥) → Previous t k d
 
 -- k is a read, and w its last write: an earlier write to the same variable, with none between
 pub record LastWrite (t : List Event) (k w : ℕ) : Type 0 where

@@ -1,4 +1,4 @@
-//! One event of a trace: what a thread did to a variable or a lock, and where in the program.
+//! One event of a trace: what a thread did to a variable, a lock or a thread, and where in the program.
 ghost use Rattle.std.specs.Prelude.{◌<◌};
 ghost use Rattle.trace.specs.Limits.{threads, subjects};
 
@@ -6,7 +6,8 @@ use crate::kind::Kind;
 
 mod methods;
 
-/// The subject is a variable in a read or a write, and a lock in an acquire or a release. Every event is within the limits.
+/// The subject is a variable in a read or a write, a lock in an acquire or a release, and a thread in a spawn or a join. Every event is within
+/// the limits.
 #[derive(Clone, Copy, PartialEq, Debug)]
 pub struct Event {
     pub kind: Kind,

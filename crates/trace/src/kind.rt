@@ -1,8 +1,8 @@
-//! The four kinds of events.
+//! The six kinds of events.
 ghost use Rattle.std.specs.Prelude.{◌≡◌};
-ghost use Rattle.trace.specs.Limits.{accesses, subjects};
+ghost use Rattle.trace.specs.Limits.{accesses, on_lock, subjects};
 
-use crate::limits::{LOCKS, VARIABLES};
+use crate::limits::{LOCKS, THREADS, VARIABLES};
 
 #[derive(Clone, Copy, PartialEq, Eq, Debug)]
 pub enum Kind {
@@ -10,16 +10,30 @@ pub enum Kind {
     Write,
     Acquire,
     Release,
+    /// Starts the thread that is its subject.
+    Spawn,
+    /// Awaits the end of the thread that is its subject.
+    Join,
 }
 
 impl Kind {
-    /// Whether an event of the kind touches a variable; else it touches a lock.
+    /// Whether an event of the kind touches a variable.
     pub fn is_access(self) -> bool
         ensures { result ≡ accesses self }
     {
         match self {
             Kind::Read | Kind::Write => true,
-            Kind::Acquire | Kind::Release => false,
+            Kind::Acquire | Kind::Release | Kind::Spawn | Kind::Join => false,
+        }
+    }
+
+    /// Whether an event of the kind touches a lock.
+    pub fn is_lock(self) -> bool
+        ensures { result ≡ on_lock self }
+    {
+        match self {
+            Kind::Acquire | Kind::Release => true,
+            Kind::Read | Kind::Write | Kind::Spawn | Kind::Join => false,
         }
     }
 
@@ -30,6 +44,7 @@ impl Kind {
         match self {
             Kind::Read | Kind::Write => VARIABLES,
             Kind::Acquire | Kind::Release => LOCKS,
+            Kind::Spawn | Kind::Join => u16::from(THREADS),
         }
     }
 }

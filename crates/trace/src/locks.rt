@@ -16,6 +16,10 @@ pub enum TraceFault {
     NotHolder,
     /// Its thread would hold the lock that it acquires deeper than a byte can say.
     TooDeep,
+    /// It is a spawn or a join of its own thread, or a spawn of one that has events or was named by an earlier spawn or join.
+    NotStartable,
+    /// Its thread was joined.
+    Ended,
 }
 
 /// Who holds each lock, if a thread does, by the number of the lock.

@@ -23,7 +23,7 @@ pub enum RecordFault {
     Kind,
     /// The thread is past the last one.
     Thread,
-    /// The variable or the lock is past the last one.
+    /// The variable, the lock or the thread that it names is past the last one.
     Subject,
 }
 
@@ -50,6 +50,8 @@ impl From<Kind> for u8 {
             Kind::Write => 2,
             Kind::Acquire => 3,
             Kind::Release => 4,
+            Kind::Spawn => 5,
+            Kind::Join => 6,
         }
     }
 }
@@ -66,6 +68,8 @@ impl TryFrom<u8> for Kind {
             2 => Ok(Kind::Write),
             3 => Ok(Kind::Acquire),
             4 => Ok(Kind::Release),
+            5 => Ok(Kind::Spawn),
+            6 => Ok(Kind::Join),
             _ => Err(RecordFault::Kind),
         }
     }

@@ -1,7 +1,7 @@
 //! Records on a few examples.
 use crate::fault::Fault;
 use crate::kind::Kind;
-use crate::limits::LOCKS;
+use crate::limits::{LOCKS, THREADS};
 use crate::record::{decode, encode};
 use std::test::Fail;
 
@@ -24,11 +24,15 @@ fn records(rt: HostRuntime) -> Result<(), Fail> {
     assert_eq!(rt; refusal(&[1, 0, 0xff, 3, 0, 0, 0, 0]), None);
     assert_eq!(rt; refusal(&[0, 16, 0xff, 0xff]), Some(1));
     assert_eq!(rt; refusal(&[1; 9]), Some(1));
-    assert_eq!(rt; refusal(&[5, 16, 0xff, 0xff, 0, 0, 0, 0]), Some(2));
+    assert_eq!(rt; refusal(&[7, 16, 0xff, 0xff, 0, 0, 0, 0]), Some(2));
     assert_eq!(rt; refusal(&[1, 16, 0xff, 0xff, 0, 0, 0, 0]), Some(3));
     let [low, high] = LOCKS.to_le_bytes();
     assert_eq!(rt; refusal(&[3, 15, low, high, 0, 0, 0, 0]), Some(4));
     assert_eq!(rt; refusal(&[4, 15, low, high, 0, 0, 0, 0]), Some(4));
     assert_eq!(rt; refusal(&[2, 15, 0, 4, 0, 0, 0, 0]), Some(4));
+    assert_eq!(rt; refusal(&[5, 0, THREADS - 1, 0, 0, 0, 0, 0]), None);
+    assert_eq!(rt; refusal(&[6, 16, 0xff, 0xff, 0, 0, 0, 0]), Some(3));
+    assert_eq!(rt; refusal(&[5, 15, THREADS, 0, 0, 0, 0, 0]), Some(4));
+    assert_eq!(rt; refusal(&[6, 15, 0, 1, 0, 0, 0, 0]), Some(4));
     Ok(())
 }

@@ -7,13 +7,14 @@ use answer::verdict::WitnessFault;
 use reel::Reel;
 use std::alloc::AllocError;
 
-/// Where the previous event of the step stands.
+/// Where the previous event of the step stands: the latest earlier one of its thread, or the spawn of its thread where there is none.
 fn previous_of(trace: &[Step], step: &Step) -> Option<u16> {
     trace
         .iter()
         .rev()
         .find(|other| other.event.thread == step.event.thread && other.position < step.position)
         .map(|other| other.position)
+        .or(step.spawn)
 }
 
 /// Whether happens-before does not put the first event of a pair before the second.

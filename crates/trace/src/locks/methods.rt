@@ -1,8 +1,8 @@
 //! What the table of lock holders does.
-ghost use Rattle.std.specs.Prelude.{◌≡◌, []};
+ghost use Rattle.std.specs.Prelude.{◌≡◌, ℕ, None};
 ghost use Rattle.trace.specs.Depths.{depth_in};
 ghost use Rattle.trace.specs.Faults.{trace_number};
-ghost use Rattle.trace.specs.Locks.{Tells, Turned, standing};
+ghost use Rattle.trace.specs.Locks.{holders, LocksTurned};
 
 use crate::event::Event;
 use crate::fault::Fault;
@@ -19,14 +19,16 @@ impl Fault for TraceFault {
             TraceFault::AlreadyHeld => 5,
             TraceFault::NotHolder => 6,
             TraceFault::TooDeep => 13,
+            TraceFault::NotStartable => 14,
+            TraceFault::Ended => 15,
         }
     }
 }
 
 impl LockTable {
     /// Every lock is free.
-    pub fn new() -> LockTable
-        ensures { Tells result [] }
+    pub(crate) fn new() -> LockTable
+        ensures { (l : ℕ) → holders result l ≡ None }
     {
         LockTable {
             holders: [None; LOCK_COUNT],
@@ -34,8 +36,8 @@ impl LockTable {
     }
 
     /// How deep the thread is in the lock; 0 where it does not hold it.
-    pub fn depth(&self, thread: u8, lock: u16) -> u8
-        ensures { result ≡ depth_in ((standing self.now).holders lock) thread }
+    pub(crate) fn depth(&self, thread: u8, lock: u16) -> u8
+        ensures { result ≡ depth_in (holders self.now lock) thread }
     {
         match self.holders.get(usize::from(lock)) {
             Some(Some(hold)) if hold.thread == thread => hold.depth,
@@ -43,11 +45,11 @@ impl LockTable {
         }
     }
 
-    /// Lets the event come next, if the trace check admits it.
-    pub fn turn(&mut self, event: &Event) -> Result<(), TraceFault>
-        ensures { Turned self.old event.now result self.new }
+    /// Lets the event come next, if its lock lets it.
+    pub(crate) fn turn(&mut self, event: &Event) -> Result<(), TraceFault>
+        ensures { LocksTurned self.old event.now result self.new }
     {
-        if event.kind.is_access() {
+        if !event.kind.is_lock() {
             return Ok(());
         }
         let lock = usize::from(event.subject);
@@ -66,7 +68,7 @@ impl LockTable {
                 Ok(())
             }
             (_, Kind::Release) => Err(TraceFault::NotHolder),
-            (_, Kind::Read | Kind::Write) => Ok(()),
+            (_, Kind::Read | Kind::Write | Kind::Spawn | Kind::Join) => Ok(()),
         }
     }
 }

@@ -17,7 +17,7 @@ unreachable-requires g c =
     let k = c.loop-position.position in
     let i = c.loop-position.invariant in
     let next = passes_some t k c.in-Some.event _ _ i.1 c.in-Some.ensures.steps in
-    lets_next t c.iter-event-items.ensures.admitted c.loop-position.locks k i.2 c.in-Some.event next.0 _ _ c.in_default.ensures
+    lets_next t c.iter-event-items.ensures.admitted c.loop-position.check k i.2 c.in-Some.event next.0 _ _ c.in_default.ensures
 
 pub loop-position-preserved : goal.loop-position-preserved
 loop-position-preserved g c =
@@ -27,11 +27,11 @@ loop-position-preserved g c =
     let i = c.loop-position.invariant in
     let next = passes_some t k e _ _ i.1 c.in-Some.ensures.steps in
     let admitted = c.iter-event-items.ensures.admitted in
-    let deep = c.depth-depth.ensures ∙ depth_told t admitted c.loop-position.locks k i.2 e next.0 in (
+    let deep = c.depth-depth.ensures ∙ depth_told t admitted c.loop-position.check k i.2 e next.0 in (
       λ p. has_written_of_eq _ _ _ _ _ (ap (λ n. event_lines t 0 (take k t) ++ event_line k e n) deep ∙ lines_more t k e next.1 next.0)
           (has_written_append _ _ _ _ _ _ (i.0 p) (search rules)),
       next.2,
-      tells_next t admitted c.loop-position.locks k i.2 e next.0 _ next.1 c.in-Ok.ensures,
+      tells_next t admitted c.loop-position.check k i.2 e next.0 _ next.1 c.in-Ok.ensures,
     )
 
 pub returns-clause-writes : goal.returns-clause-writes

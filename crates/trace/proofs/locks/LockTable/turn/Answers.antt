@@ -3,11 +3,11 @@ use Rattle.std.proofs.lemmas.Bool.{eq-eqb}
 use Rattle.std.proofs.lemmas.Result.{err_from_is_err_and}
 use Rattle.trace.specs.declared.kind.Kind.TheVariants.{Acquire}
 use Rattle.trace.specs.Traces.{entered, lock_refusal}
-use Rattle.trace.proofs.LockTables.{turned_access, turned_acquire, turned_release, refused}
+use Rattle.trace.proofs.LockTables.{turned_off, turned_acquire, turned_release, refused}
 use Rattle.trace.proofs.locks.LockTable.turn.Goals as goal
 
-pub returns-then-is_access : goal.returns-then-is_access
-returns-then-is_access c = turned_access c.args.self.now c.args.event.now (cc)
+pub returns-then-not-is_lock : goal.returns-then-not-is_lock
+returns-then-not-is_lock c = turned_off c.args.self.now c.args.event.now (cc)
 
 pub returns-in-None-Acquire : goal.returns-in-None-Acquire
 returns-in-None-Acquire c =
