@@ -14,6 +14,7 @@ use Rattle.trace.proofs.Events.{at_inside, at_same}
 use Rattle.trace.proofs.Lookups.{last_write_found}
 use Rattle.predict.specs.Held.{held, Misses}
 use Rattle.predict.specs.Parts.{ReadWants}
+use Rattle.predict.proofs.Bounds.{Below}
 use Rattle.predict.proofs.Inside.{Seen, seen_at, seen_held}
 use Rattle.predict.proofs.Finding.{latest_here, latest_skip, write_search}
 
@@ -129,11 +130,6 @@ module _ (t : List Event) (bs : List ℕ) where
         go (Some r) None q n h = absurd (grind arith)
         go (Some r) (Some w) q n h = let (out, one) = out_of r w (held t bs w) q in rw one (from w n out)
 
-  -- at the end nothing is missing
-  pub pass_all : (k : ℕ) (table : List (Option ℕ)) → length t ≤ k → Pass k table → Misses ReadWants t bs None
-  pass_all k table b p = record {
-    outside = tt;
-    exact = λ ok w h.
-        let l = h.last_write in
-        p.settled h.read (omega (arith, at_inside t h.read l.read l.read_is)) w h.inside l;
-  }
+  -- past all events of the cut nothing is missing
+  pub pass_all : (k : ℕ) (table : List (Option ℕ)) → Below t bs k → Pass k table → Misses ReadWants t bs None
+  pass_all k table b p = record { outside = tt; exact = λ ok w h. p.settled h.read (b h.read h.inside) w h.inside h.last_write }

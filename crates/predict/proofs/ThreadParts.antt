@@ -13,6 +13,7 @@ use Rattle.trace.proofs.Lookups.{is_spawn, as_spawn}
 use Rattle.predict.specs.Held.{held, Outside, Misses}
 use Rattle.predict.specs.Parts.{joining, awaited_of, wanted_of, spawn_noted, event_noted}
 use Rattle.predict.proofs.Bounds.{held_cut}
+use Rattle.predict.proofs.Bounds.{Below}
 use Rattle.predict.proofs.Inside.{Seen, seen_at, seen_held}
 
 pub is_joining : (k : Kind) → joining k ≡ true → k ≡ Join
@@ -234,11 +235,11 @@ module _ (t : List Event) (bs : List ℕ) where
                 (record { before = c; spawn = s.event; event = e; spawn_is = s.is; event_is = at_k; is_spawn = s.is_spawn; names = s.names }))
             of_either (inr found) = awaited w found
 
-  -- at the end nothing is missing
-  pub pass_all : (k : ℕ) (spawned latest : List (Option ℕ)) → length t ≤ k → Pass k spawned latest → Misses ThreadWants t bs None
-  pass_all k spawned latest long p = record { outside = tt; exact = λ ok. closed }
+  -- past all events of the cut nothing is missing
+  pub pass_all : (k : ℕ) (spawned latest : List (Option ℕ)) → Below t bs k → Pass k spawned latest → Misses ThreadWants t bs None
+  pass_all k spawned latest b p = record { outside = tt; exact = λ ok. closed }
     where
       closed : Closed ThreadWants t (held t bs)
-      closed w (spawn {k = m} i h) = (p.settled m (omega (arith, at_inside t m h.event h.event_is)) i).0 w h
-      closed w (awaited_spawn {k = m} i h) = (p.settled m (omega (arith, at_inside t m h.join h.join_is)) i).1 w h
-      closed w (awaited_last {k = m} i h) = (p.settled m (omega (arith, at_inside t m h.awaited.join h.awaited.join_is)) i).2 w h
+      closed w (spawn {k = m} i h) = (p.settled m (b m i) i).0 w h
+      closed w (awaited_spawn {k = m} i h) = (p.settled m (b m i) i).1 w h
+      closed w (awaited_last {k = m} i h) = (p.settled m (b m i) i).2 w h

@@ -19,9 +19,9 @@ impl<R: Reel> Rule<R> for SyncRule {
     ghost lawful = { sync_laws };
 
     fn missing(&self, reel: &R, cut: &Cut) -> Option<usize> {
-        missing_thread_event(reel, cut)
-            .or_else(|| missing_write(reel, cut))
+        missing_write(reel, cut)
             .or_else(|| missing_release(reel, cut))
+            .or_else(|| missing_thread_event(reel, cut))
     }
 }
 
@@ -36,7 +36,7 @@ impl<R: Reel> Rule<R> for HappensBeforeRule {
     ghost lawful = { happens_before_laws };
 
     fn missing(&self, reel: &R, cut: &Cut) -> Option<usize> {
-        missing_thread_event(reel, cut).or_else(|| missing_earlier_release(reel, cut))
+        missing_earlier_release(reel, cut).or_else(|| missing_thread_event(reel, cut))
     }
 }
 
@@ -50,8 +50,8 @@ impl<R: Reel> Rule<R> for SchedulableRule {
     ghost lawful = { schedulable_laws };
 
     fn missing(&self, reel: &R, cut: &Cut) -> Option<usize> {
-        HappensBeforeRule {}
-            .missing(reel, cut)
+        missing_earlier_release(reel, cut)
             .or_else(|| missing_write(reel, cut))
+            .or_else(|| missing_thread_event(reel, cut))
     }
 }

@@ -62,7 +62,11 @@ pub(crate) fn missing_thread_event<R: Reel>(reel: &R, cut: &Cut) -> Option<usize
     ensures { let t = R.Reel.events reel.now in Misses ThreadWants t cut.now.bounds result }
 {
     let mut outside = Outside::new();
+    let end = cut.end();
     for (k, event) in reel.iter().enumerate() {
+        if k >= end {
+            break;
+        }
         if cut.holds(k, &event) {
             let wanted = outside.wanted(&event);
             if wanted.is_some() {

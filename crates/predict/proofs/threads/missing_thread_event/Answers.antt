@@ -1,6 +1,7 @@
 -- Each event wants nothing that is noted, or is noted, or what it wants is missing.
 use Rattle.std.proofs.Common.{sym, arith}
 use Rattle.reel.proofs.Left.{passes_some, passes_end}
+use Rattle.predict.proofs.Bounds.{below_length, below_end}
 use Rattle.predict.proofs.Inside.{seen_first}
 use Rattle.predict.proofs.ThreadParts.{pass_start, pass_inside, pass_outside, pass_misses, pass_all}
 use Rattle.predict.proofs.threads.missing_thread_event.Goals as goal
@@ -49,9 +50,18 @@ loop-k-preserved g c =
       (passes_some t k e _ _ inv.1 c.in-Some.ensures.steps).2,
     )
 
-pub returns : goal.returns
-returns g c =
+pub returns-in-None : goal.returns-in-None
+returns-in-None g c =
     let t = g.R.Reel.events c.args.reel.now in
+    let bs = c.args.cut.now.bounds in
     let inv = c.loop-k.invariant in
     let o = c.loop-k.outside in
-    pass_all t c.args.cut.now.bounds c.loop-k.k o.spawns o.latest (passes_end t c.loop-k.k _ inv.1 c.in-None.ensures.steps.0) inv.0
+    pass_all t bs c.loop-k.k o.spawns o.latest (below_length t bs c.loop-k.k (passes_end t c.loop-k.k _ inv.1 c.in-None.ensures.steps.0)) inv.0
+
+pub returns-then-k-end : goal.returns-then-k-end
+returns-then-k-end g c =
+    let t = g.R.Reel.events c.args.reel.now in
+    let bs = c.args.cut.now.bounds in
+    let inv = c.loop-k.invariant in
+    let o = c.loop-k.outside in
+    pass_all t bs c.loop-k.k o.spawns o.latest (below_end t bs c.loop-k.k c.end-end.result c.end-end.ensures (omega arith)) inv.0

@@ -4,6 +4,6 @@ use Rattle.predict.proofs.rules.SchedulableRuleRule.missing.Goals as goal
 
 pub returns : goal.returns
 returns g c =
-    let h = schedulable_misses (g.R.Reel.events c.args.reel.now) c.args.cut.now.bounds c.missing.result c.or_else.result
-    (record { outside = c.missing.ensures.outside; exact = c.missing.ensures.exact }) (search rules) in
+    let h = schedulable_misses (g.R.Reel.events c.args.reel.now) c.args.cut.now.bounds c.missing_earlier_release.result c.or_else.result
+    c.or_else-2.result c.missing_earlier_release.ensures (search rules) (search rules) in
     record { outside = h.outside; exact = h.exact }
