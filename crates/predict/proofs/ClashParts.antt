@@ -7,25 +7,27 @@ use Rattle.std.proofs.lemmas.List.{length-set, get_or-set_same, get_or-set_other
 use Rattle.trace.specs.declared.event.Event.{Event}
 use Rattle.trace.specs.declared.kind.Kind.{Kind}
 use Rattle.trace.specs.declared.kind.Kind.TheVariants.{Read, Write, Acquire, Release, Spawn, Join}
-use Rattle.trace.specs.declared.check.TraceCheck.{TraceCheck}
+use Rattle.trace.specs.declared.locks.LockTable.{LockTable}
 use Rattle.trace.specs.declared.locks.TraceFault.{TraceFault}
 use Rattle.trace.specs.Limits.{locks}
-use Rattle.trace.specs.Faults.{trace_number}
+use Rattle.trace.specs.Faults.{trace_number, refusal_in}
 use Rattle.trace.specs.Traces.{standing_after, lock_refusal, Allowed, Admits}
-use Rattle.trace.specs.Checks.{Tells, Turned, standing}
+use Rattle.trace.specs.Locks.{holders, LocksTurned}
 use Rattle.trace.specs.Reorderings.{picked}
 use Rattle.trace.specs.Cuts.{In, Closed, listed}
 use Rattle.trace.proofs.Faults.{ok_refuses_none}
+use Rattle.trace.proofs.Holders.{lets}
 use Rattle.trace.proofs.Events.{at_inside}
 use Rattle.trace.proofs.Places.{Stands, at_split, stands, of_front}
 use Rattle.trace.proofs.Listing.{listed_in, listed_out, listed_within, listed_all, listed_front}
 use Rattle.trace.proofs.Picked.{picked_at, picked_push, admits_before, allowed_at}
 use Rattle.trace.proofs.Owning.{Orderly, orderly_front}
 use Rattle.trace.proofs.Releases.{release_among}
-use Rattle.trace.proofs.Clashes.{Clash, listing_orderly, allowed_or}
+use Rattle.trace.proofs.Clashes.{Clash, listing_orderly, lets_come, allowed_or}
 use Rattle.predict.specs.Held.{held}
 use Rattle.predict.specs.Parts.{AcquireIn, LockWants, SettledBefore, Enough}
-use Rattle.predict.proofs.Bounds.{held_cut}
+use Rattle.predict.proofs.Bounds.{held_cut, Below}
+use Rattle.predict.proofs.Holding.{Holds, holds_next}
 use Rattle.predict.proofs.Inside.{Seen, seen_at, seen_held}
 
 -- an answer is a refusal just if it is no success
@@ -42,47 +44,52 @@ pub zeros : (l : ℕ) → get_or {A = ℕ} (replicate locks 0) l 0 ≡ 0
 zeros l = ⊎_elim (λ h. get_or-replicate locks l 0 0 h) (λ h. get_or_past (replicate locks 0) l 0 h) (cases_lt l locks)
 
 module _ (t : List Event) (bs : List ℕ) where
-  -- the trace check admits the events of the cut below k, and the table tells of them
-  pub record Checked (k : ℕ) (table : TraceCheck) : Type 0 where
+  -- the trace check admits the events of the cut below k, and the table has the holders after them
+  pub record Checked (k : ℕ) (table : LockTable) : Type 0 where
     pub admitted : Admits (picked t (listed (held t bs) k))
-    pub tells : Tells table (picked t (listed (held t bs) k))
+    pub holds : Holds table (picked t (listed (held t bs) k))
 
-  pub checked_start : (table : TraceCheck) → Tells table [] → Checked 0 table
-  checked_start table tells = record { admitted = tt; tells = tells }
+  pub checked_start : (table : LockTable) → ((l : ℕ) → holders table l ≡ None) → Checked 0 table
+  checked_start table free = record { admitted = tt; holds = free }
 
-  module _ {k : ℕ} {e : Event} {b : Bool} (seen : Seen t bs k e b) (table : TraceCheck) (known : Admits t → Checked k table) where
+  module _ {k : ℕ} {e : Event} {b : Bool} (seen : Seen t bs k e b) (table : LockTable) (known : Admits t → Checked k table) where
     -- an event outside the cut
     pub checked_out : b ≡ false → Admits t → Checked (k + 1) table
     checked_out out ok =
         let c = known ok in
         let same = listed_out (held t bs) k (seen_held t bs seen ∙ out) in
-        record { admitted = rw (add-one, same) c.admitted; tells = rw (add-one, same) c.tells }
+        record { admitted = rw (add-one, same) c.admitted; holds = rw (add-one, same) c.holds }
 
-    module _ (inside : b ≡ true) (next : TraceCheck) (r : Result (Unit {0}) TraceFault) (turned : Turned table e r next) where
+    module _ (inside : b ≡ true) (next : LockTable) (r : Result (Unit {0}) TraceFault) (turned : LocksTurned table e r next) where
       here : In k (held t bs)
       here = seen_held t bs seen ∙ inside
 
       abbrev before : List Event
       before = picked t (listed (held t bs) k)
 
-      -- one that the trace check lets come
+      -- the answer is that of its lock after them
+      by_lock : Admits t → refusal_in trace_number r ≡ lock_refusal e.kind e.thread ((standing_after before).holders e.subject)
+      by_lock ok = turned.answer ∙ ap (lock_refusal e.kind e.thread) ((known ok).holds e.subject)
+
+      -- one that its lock lets come
       pub checked_in : is_err r ≡ false → Admits t → Checked (k + 1) next
       checked_in comes ok =
           let c = known ok in
-          let lets = succeeds r comes in
+          let taken = succeeds r comes in
           let more = listed_in (held t bs) k here in
-          let allowed : Allowed (standing_after before) e = sym (turned.answer before c.tells) ∙ (ok_refuses_none trace_number r).0 lets in
+          let allowed : Allowed (standing_after before) e =
+          lets_come t (held t bs) ok (held_cut t bs) k e (seen_at t bs seen) here c.admitted (sym (by_lock ok) ∙ (ok_refuses_none trace_number r).0 taken) in
           let all : picked t (listed (held t bs) k ++ (k ∷ [])) ≡ before ++ (e ∷ []) = picked_at t (at_split (listed (held t bs) k) [] refl) e (seen_at t bs seen) in
           record {
             admitted = rw (add-one, more) (picked_push t (listed (held t bs) k) k e (seen_at t bs seen) c.admitted allowed);
-            tells = rw (add-one, more, all) (subst (Tells next) (cond-true (is_ok r) (before ++ (e ∷ [])) before lets) (turned.tells before c.tells));
+            holds = rw (add-one, more, all) (holds_next table before e r next turned c.holds taken);
           }
 
       -- one that it turns away clashes with an earlier acquire, whose release is missing
       clashes : Admits t → is_err r ≡ true → Clash t (held t bs) k e
       clashes ok fails =
           let c = known ok in
-          ⊎_elim (λ a. absurd (both_ways (is_ok r) (refuses r fails) ((ok_refuses_none trace_number r).1 (turned.answer before c.tells ∙ a)))) (λ x. x)
+          ⊎_elim (λ a. absurd (both_ways (is_ok r) (refuses r fails) ((ok_refuses_none trace_number r).1 (by_lock ok ∙ (lets (standing_after before) e a).lock)))) (λ x. x)
           (allowed_or t (held t bs) ok (held_cut t bs) k e (seen_at t bs seen) here c.admitted)
 
       -- so it is an acquire
@@ -118,8 +125,8 @@ module _ (t : List Event) (bs : List ℕ) where
       }
 
   -- where the pass comes to an end, the cut wants no release
-  checked_closed : (k : ℕ) → length t ≤ k → Admits (picked t (listed (held t bs) k)) → Closed LockWants t (held t bs)
-  checked_closed k long ok w h = (listed_within (held t bs) k w (of_front s
+  checked_closed : (k : ℕ) → Below t bs k → Admits (picked t (listed (held t bs) k)) → Closed LockWants t (held t bs)
+  checked_closed k past ok w h = (listed_within (held t bs) k w (of_front s
       (release_among t s.front (orderly_front t (listed (held t bs) k) order s) (admits_before t s f.event f.outer.is ok) h.second f.event f.outer (order.in_turn s)
       (allowed_at t s f.event f.outer.is ok) h.first w e.event
       (listed_front (held t bs) k s h.first e.inside h.order) e.outer (e.its_lock ∙ sym f.its_lock) h.release))).0
@@ -134,7 +141,7 @@ module _ (t : List Event) (bs : List ℕ) where
       order = listing_orderly t (held t bs) (held_cut t bs) k
 
       s : Stands h.second (listed (held t bs) k)
-      s = stands (listed_all (held t bs) k h.second f.inside (omega (arith, at_inside t h.second f.event f.outer.is)))
+      s = stands (listed_all (held t bs) k h.second f.inside (past h.second f.inside))
 
-  pub checked_all : (k : ℕ) → length t ≤ k → (Admits t → Admits (picked t (listed (held t bs) k))) → Enough t bs (replicate locks 0)
-  checked_all k long ok = record { whole = refl; within = λ l. omega (arith, zeros l); enough = λ admits settled. checked_closed k long (ok admits) }
+  pub checked_all : (k : ℕ) → Below t bs k → (Admits t → Admits (picked t (listed (held t bs) k))) → Enough t bs (replicate locks 0)
+  checked_all k past ok = record { whole = refl; within = λ l. omega (arith, zeros l); enough = λ admits settled. checked_closed k past (ok admits) }

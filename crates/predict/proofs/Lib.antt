@@ -2,6 +2,7 @@
 pub mod Bounds
 pub mod Lacking
 pub mod Growth
+pub mod Holding
 pub mod Seeding
 pub mod Finding
 pub mod Inside

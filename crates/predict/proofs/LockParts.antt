@@ -169,12 +169,17 @@ module _ (t : List Event) (ok : Admits t) where
     not_held_in : (l k : ℕ) → (lock_depth l (take k t) ≡ 0 → ⊥) → AcquireIn t (held t bs) l k → ⊥
     not_held_in l k held a = held (rw a.its_lock at (outer_free k a.event a.outer))
 
-    pub no_release : {l k : ℕ} (a : ℕ) → LatestAcquire t bs l k (Some a) → release_of t a ≡ None → ReleaseInside t bs a
-    no_release a (is, low, old) q r h = absurd ((release_found t a is.event is.outer).1.0 q r h)
+    -- what is found as the release of an outer acquire
+    abbrev pub Found : ℕ → Option ℕ → Type 0
+    Found a o = (e : Event) → Outer t a e → o ≡ release_of t a
 
-    pub release_inside : {l k : ℕ} (a r : ℕ) → LatestAcquire t bs l k (Some a) → Some r ≡ release_of t a → false ≡ lacks t bs r → ReleaseInside t bs a
+    pub no_release : {l k : ℕ} (a : ℕ) → LatestAcquire t bs l k (Some a) → Found a None → ReleaseInside t bs a
+    no_release a (is, low, old) q r h = absurd ((release_found t a is.event is.outer.is is.outer.is_acquire).1.0 (sym (q is.event is.outer)) r h)
+
+    pub release_inside : {l k : ℕ} (a r : ℕ) → LatestAcquire t bs l k (Some a) → Found a (Some r) → false ≡ lacks t bs r → ReleaseInside t bs a
     release_inside a r (is, low, old) q h w rel =
-        let p = ((release_found t a is.event is.outer).0 w).1 rel in
+        let p = ((release_found t a is.event is.outer.is is.outer.is_acquire).0 w).1 rel in
+        let found = q is.event is.outer in
         let one : r ≡ w = cc in
         lacks_inside t bs w rel.release rel.frees.is (sym (rw one at h))
 
@@ -215,7 +220,7 @@ module _ (t : List Event) (ok : Admits t) where
 
     -- a latest acquire, before another, with its release outside
     pub lock_misses : (l k a r : ℕ) → lock_depth l (take k t) ≡ 0 → true ≡ fits_inside (acquires l) t bs k → LatestAcquire t bs l k (Some a)
-        → Some r ≡ release_of t a → LockWants t (held t bs) r
+        → Found a (Some r) → LockWants t (held t bs) r
     lock_misses l k a r free h (is, low, old) q = record {
       lock = l;
       first = a;
@@ -223,7 +228,7 @@ module _ (t : List Event) (ok : Admits t) where
       first_in = is;
       second_in = acquire_in l k free h;
       order = low;
-      release = ((release_found t a is.event is.outer).0 r).0 (sym q);
+      release = ((release_found t a is.event is.outer.is is.outer.is_acquire).0 r).0 (sym (q is.event is.outer));
     }
 
 module _ (t : List Event) (bs ends : List ℕ) where

@@ -322,7 +322,7 @@ sync_decided = record {
         let (b, j, s) = some_inside (before_acquire outer_here) t c a later in
         let r = is_before_acquire outer_here t b a s in
         let (first, lock) = is_outer t r.acquire.subject a r.event r.event_is r.does in
-        earlier_release i j r.before first r.outer lock (((release_found t a r.event first).0 w).0 (found (release_of t a) w is))
+        earlier_release i j r.before first r.outer lock (((release_found t a r.event first.is first.is_acquire).0 w).0 (found (release_of t a) w is))
 
     wanted : (t : List Event) (c : Positions) (w : ℕ) → either (some_in read_test) lock_test t c w ≡ true → SyncWants t c w
     wanted t c w h =
@@ -341,7 +341,7 @@ sync_decided = record {
         among t c w (or_right (some_in read_test t c w) (lock_test t c w)
         (some_from (λ a. (c a && finds (release_of t a) w) && some_in (before_acquire outer_here) t c a) (length t) a (at_inside t a e p.is)
         (and_from (c a && finds (release_of t a) w) (some_in (before_acquire outer_here) t c a)
-        (and_from (c a) (finds (release_of t a) w) i (found_from (release_of t a) w (((release_found t a e p).0 w).1 rel)))
+        (and_from (c a) (finds (release_of t a) w) i (found_from (release_of t a) w (((release_found t a e p.is p.is_acquire).0 w).1 rel)))
         (some_in_from (before_acquire outer_here) t c a b f q.is j (as_before_acquire outer_here t b a (record {
           before = lt;
           acquire = f;

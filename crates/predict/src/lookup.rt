@@ -1,6 +1,7 @@
 //! Looks for events in a reel.
 ghost use Rattle.std.specs.Prelude.{◌≡◌, ◌<◌};
-ghost use Rattle.trace.specs.Traces.{deeper};
+ghost use Rattle.trace.specs.declared.event.Event.{Event};
+ghost use Rattle.trace.specs.Traces.{deeper, Outer};
 ghost use Rattle.trace.specs.Lookups.{fits_here, latest, of_thread, spawns, writes, depth_past, previous, last_write, release_of};
 ghost use Rattle.std.specs.List.{slice_get};
 ghost use Rattle.predict.specs.Held.{held, lacks};
@@ -24,6 +25,13 @@ pub fn is_write_at<R: Reel>(reel: &R, position: usize, variable: u16) -> bool
     ensures { let t = R.Reel.events reel.now in result ≡ fits_here (writes variable) (slice_get t position) }
 {
     reel.event(position).is_some_and(|event| event.kind == Kind::Write && event.subject == variable)
+}
+
+/// Whether there is an acquire of the lock at the position.
+pub fn is_acquire_at<R: Reel>(reel: &R, position: usize, lock: u16) -> bool
+    ensures { let t = R.Reel.events reel.now in result ≡ fits_here (acquires lock) (slice_get t position) }
+{
+    reel.event(position).is_some_and(|event| event.kind == Kind::Acquire && event.subject == lock)
 }
 
 /// Whether there is a spawn of the thread at the position.
@@ -99,7 +107,7 @@ pub fn last_write<R: Reel>(reel: &R, position: usize) -> Option<usize>
 
 /// Where the thread of the outer acquire at a position next frees its lock.
 pub(crate) fn release_of<R: Reel>(reel: &R, position: usize) -> Option<usize>
-    ensures { let t = R.Reel.events reel.now in result ≡ release_of t position }
+    ensures { let t = R.Reel.events reel.now in ((e : Event) → Outer t position e → result ≡ release_of t position) }
 {
     let acquire = reel.event(position)?;
     let mut depth = 1;

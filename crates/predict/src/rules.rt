@@ -9,7 +9,8 @@ use crate::rule::Rule;
 use crate::threads::missing_thread_event;
 use reel::Reel;
 
-/// An event wants the spawn of its thread, a join the spawn and the last event of the thread that it awaits, a read its last write, and of two acquires of a lock the first wants its release.
+/// An event wants the spawn of its thread, a join the spawn and the last event of the thread that it awaits, a read its last write, and of two
+/// outer acquires of a lock the first wants its release.
 #[derive(Clone, Copy)]
 pub struct SyncRule {}
 

@@ -111,7 +111,8 @@ module _ (t : List Event) (c : Positions) (ok : Admits t) (cut : Cut t c) (k : �
   startable : thread_refusal e.kind e.thread e.subject ((standing_after (picked t (listed c k))).lives e.subject) ≡ None
   startable = still_startable e.kind e.thread e.subject _ _ (known_less e.subject) (lets (standing_after (take k t)) e (allowed_in t k e ok i)).startable
 
-  lets_come : lock_refusal e.kind e.thread hold ≡ None → Allowed (standing_after (picked t (listed c k))) e
+  -- where its lock lets it come after the listing, the trace check does
+  pub lets_come : lock_refusal e.kind e.thread hold ≡ None → Allowed (standing_after (picked t (listed c k))) e
   lets_come q = from_lets (standing_after (picked t (listed c k))) e (record { living = living; startable = startable; lock = q })
 
   clash : (o : Hold) → hold ≡ Some o → Outer t k e → Clash t c k e

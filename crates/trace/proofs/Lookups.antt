@@ -11,7 +11,7 @@ use Rattle.trace.specs.Traces.Previous.{in_thread, by_spawn}
 use Rattle.trace.specs.Lookups.{reading, writing, of_thread, writes, freeing, previous, last_write, release_of, Finds, PreviousFound, LastWriteFound, ReleaseFound, latest, spawning, spawns, or_found}
 use Rattle.trace.proofs.Events.{at_same, at_inside}
 use Rattle.trace.proofs.Searches.{Latest, latest_found, latest_from}
-use Rattle.trace.proofs.Sections.{FreeingIs, freeing_is, outer_after, freed_release, release_freed, release_only}
+use Rattle.trace.proofs.Sections.{before, FreeingIs, freeing_is, freed_release, release_freed, release_only}
 
 -- the tests of an event say what they should
 is_reading : (k : Kind) → reading k ≡ true → k ≡ Read
@@ -193,25 +193,25 @@ last_write_found t k = finds (last_write t k) (LastWrite t k) (λ w. at_event w 
             no_read : LastWrite t k w → ⊥
             no_read l = both_ways (reading e.kind) q (ap (λ (f : Event). reading f.kind) (at_same t k e l.read i l.read_is) ∙ ap reading l.is_read)
 
--- the lookup of releases is right at outer acquires
+-- the lookup of releases is right at acquires
 pub release_found : ReleaseFound
-release_found t a e o = finds (release_of t a) (ReleaseOf t a) (λ r. rw o.is (search_found r))
+release_found t a e here acquires = finds (release_of t a) (ReleaseOf t a) (λ r. rw here (search_found r))
   where
     search : Option ℕ
-    search = freeing e.thread e.subject t 1 (suc a) (length t - suc a)
+    search = freeing e.thread e.subject t (before e.thread e.subject t (suc a)) (suc a) (length t - suc a)
 
     search_found : (r : ℕ) → (search ≡ Some r) ↔ ReleaseOf t a r
-    search_found r = (λ q. freed_release t a e o r (rw q at is).0, λ h. back h search is)
+    search_found r = (λ q. freed_release t a e here acquires r (rw q at is).0, λ h. back h search is)
       where
         is : FreeingIs e.thread e.subject t (suc a) (length t - suc a) search
-        is = freeing_is e.thread e.subject t (length t - suc a) (suc a) 1 (outer_after t a e o)
+        is = freeing_is e.thread e.subject t (length t - suc a) (suc a) (before e.thread e.subject t (suc a)) refl
 
         back : ReleaseOf t a r → (x : Option ℕ) → FreeingIs e.thread e.subject t (suc a) (length t - suc a) x → x ≡ Some r
         back h None none =
-            let f = release_freed t a e o r h in
+            let f = release_freed t a e here acquires r h in
             let i = at_inside t r h.release h.frees.is in
             absurd (omega (arith, none r f.from (omega (arith, f.from)), f.out))
-        back h (Some q) (f, b) = ap Some (release_only t a e o q r (freed_release t a e o q f) h)
+        back h (Some q) (f, b) = ap Some (release_only t a e here acquires q r (freed_release t a e here acquires q f) h)
 
 -- if k has an earlier event of its thread, its previous event is one, and no earlier than that
 pub previous_from : (t : List Event) (d k : ℕ) → EarlierInThread t d k → (p : ℕ) × Previous t k p × EarlierInThread t p k × (d ≤ p)

@@ -40,13 +40,13 @@ module _ (t : List Event) (a b : ℕ) (e f : Event) (ok : Admits t) (order : a <
     (same : e.subject ≡ f.subject) where
   -- of two outer acquires of one lock, the first has a release, and before the second
   pub release_between : (r : ℕ) × ReleaseOf t a r × (r < b)
-  release_between = freed_before t a e o b order (rw same (none_before t b f ok p e.thread))
+  release_between = freed_before t a e o.is o.is_acquire b order (rw same (none_before t b f ok p e.thread))
 
   -- so its release stands before the second
   pub release_before_next : (r : ℕ) → ReleaseOf t a r → r < b
   release_before_next r h =
       let (x, is, before) = release_between in
-      let one : r ≡ x = release_only t a e o r x h is in
+      let one : r ≡ x = release_only t a e o.is o.is_acquire r x h is in
       omega arith
 
 -- of an outer acquire among positions after which another of the lock may come next, the release is among them
@@ -57,7 +57,7 @@ release_among t xs order ok b f p turn allowed a w e member o same rel =
     let (n, own) = owned t e.thread xs order in
     let out = depth_in_turn t xs b f order p.is turn f.subject ∙ p.outside in
     let none = rw (← same) at (none_in (picked t xs) ok f allowed p.is_acquire out e.thread) in
-    let (r, is, before) = freed_before t a e o n (own.only a e o.is refl member) (sym (own.depths e.subject) ∙ none) in
-    let one : w ≡ r = release_only t a e o w r rel is in
+    let (r, is, before) = freed_before t a e o.is o.is_acquire n (own.only a e o.is refl member) (sym (own.depths e.subject) ∙ none) in
+    let one : w ≡ r = release_only t a e o.is o.is_acquire w r rel is in
     let its : rel.release.thread ≡ e.thread = rel.same_thread ∙ ap (λ (x : Event). x.thread) (at_same t a rel.acquire e rel.acquire_is o.is) in
     own.has w rel.release rel.frees.is its (omega arith)

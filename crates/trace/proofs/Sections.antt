@@ -230,15 +230,22 @@ outer_after t k e o = before_next e.thread e.subject t k e o.is ∙ depth_own e.
 pub frees_after : (t : List Event) (k : ℕ) (e : Event) → Frees t k e → depth e.thread e.subject (take (suc k) t) ≡ 0
 frees_after t k e f = before_next e.thread e.subject t k e f.is ∙ depth_own e.thread e.subject _ e refl refl ∙ rw (f.is_release, f.last) refl
 
-module _ (t : List Event) (a : ℕ) (e : Event) (o : Outer t a e) where
-  -- the release of an outer acquire is where its thread comes out of the lock next
+module _ (t : List Event) (a : ℕ) (e : Event) (here : At t a e) (acquires : e.kind ≡ Acquire) where
+  -- after an acquire its thread is in the lock
+  acquired : 0 < before e.thread e.subject t (suc a)
+  acquired =
+      let next : before e.thread e.subject t (suc a) ≡ suc (before e.thread e.subject t a) =
+      before_next e.thread e.subject t a e here ∙ depth_own e.thread e.subject _ e refl refl ∙ rw acquires refl in
+      omega (arith, next)
+
+  -- the release of an acquire is where its thread comes out of the lock next
   pub freed_release : (r : ℕ) → FreedAt e.thread e.subject t (suc a) r → ReleaseOf t a r
   freed_release r f = record {
     after = f.from;
     acquire = e;
     release = there.0;
-    acquire_is = o.is;
-    is_acquire = o.is_acquire;
+    acquire_is = here;
+    is_acquire = acquires;
     frees = there.1;
     same_lock = there.3;
     same_thread = there.2;
@@ -248,7 +255,7 @@ module _ (t : List Event) (a : ℕ) (e : Event) (o : Outer t a e) where
   }
     where
       in_lock : 0 < before e.thread e.subject t r
-      in_lock = ⊎_elim (λ q. rw q (omega (arith, outer_after t a e o))) (λ q. up r (f.from) q refl) (cases_eq r (suc a))
+      in_lock = ⊎_elim (λ q. rw q (omega (arith, acquired))) (λ q. up r (f.from) q refl) (cases_eq r (suc a))
         where
           up : (s : ℕ) → suc a ≤ s → (s ≡ suc a → ⊥) → s ≡ r → 0 < before e.thread e.subject t s
           up zero b n q = absurd (omega arith)
@@ -268,7 +275,7 @@ module _ (t : List Event) (a : ℕ) (e : Event) (o : Outer t a e) where
       (⊎_elim (λ q. ap_positive q) (λ q. stays_in r none m (omega arith) (omega arith)) (cases_eq a m))
     where
       ap_positive : a ≡ m → 0 < before e.thread e.subject t (suc m)
-      ap_positive q = rw (← q) (omega (arith, outer_after t a e o))
+      ap_positive q = rw (← q) (omega (arith, acquired))
 
       of_depth : (d : ℕ) → before e.thread e.subject t (suc (suc m)) ≡ d → 0 < before e.thread e.subject t (suc m)
           → 0 < before e.thread e.subject t (suc (suc m))
@@ -284,7 +291,7 @@ module _ (t : List Event) (a : ℕ) (e : Event) (o : Outer t a e) where
   }
     where
       same : h.acquire ≡ e
-      same = at_same t a h.acquire e h.acquire_is o.is
+      same = at_same t a h.acquire e h.acquire_is here
 
       thread : h.release.thread ≡ e.thread
       thread = h.same_thread ∙ ap (λ (x : Event). x.thread) same
@@ -296,7 +303,7 @@ module _ (t : List Event) (a : ℕ) (e : Event) (o : Outer t a e) where
       since = stays_in r (λ m g b c fr x y.
           h.none_between m g b c fr (x ∙ ap (λ (z : Event). z.subject) (sym same)) (y ∙ ap (λ (z : Event). z.thread) (sym same)))
 
-  -- an outer acquire has one release at most
+  -- an acquire has one release at most
   pub release_only : (q r : ℕ) → ReleaseOf t a q → ReleaseOf t a r → q ≡ r
   release_only q r x y = ⊎_elim (λ same. same) (⊎_elim (λ less. absurd (clash q r x y less)) (λ more. absurd (clash r q y x more))) (cases_order q r)
     where
@@ -306,13 +313,13 @@ module _ (t : List Event) (a : ℕ) (e : Event) (o : Outer t a e) where
   -- where its thread is out of the lock later, it has a release before that
   pub freed_before : (n : ℕ) → a < n → depth e.thread e.subject (take n t) ≡ 0 → (r : ℕ) × ReleaseOf t a r × (r < n)
   freed_before zero b out = absurd (omega arith)
-  freed_before (suc n) b out = of_answer (freeing e.thread e.subject t 1 (suc a) (n + 1)) (freeing_is e.thread e.subject t (n + 1) (suc a) 1 (outer_after t a e o))
+  freed_before (suc n) b out = of_answer (freeing e.thread e.subject t (before e.thread e.subject t (suc a)) (suc a) (n + 1)) (freeing_is e.thread e.subject t (n + 1) (suc a) (before e.thread e.subject t (suc a)) refl)
     where
       of_answer : (x : Option ℕ) → FreeingIs e.thread e.subject t (suc a) (n + 1) x → (r : ℕ) × ReleaseOf t a r × (r < suc n)
-      of_answer None none = absurd (⊎_elim (λ q. omega (arith, outer_after t a e o, ap (λ (k : ℕ). depth e.thread e.subject (take (suc k) t)) q))
+      of_answer None none = absurd (⊎_elim (λ q. omega (arith, acquired, ap (λ (k : ℕ). depth e.thread e.subject (take (suc k) t)) q))
           (λ q. omega (arith, none n (omega arith) (omega arith))) (cases_eq a n))
       of_answer (Some r) (f, c) = (r, freed_release r f, ⊎_elim (λ g. g) (λ g. absurd (late g)) (cases_lt r (suc n)))
         where
           late : suc n ≤ r → ⊥
-          late g = ⊎_elim (λ q. omega (arith, outer_after t a e o, ap (λ (k : ℕ). depth e.thread e.subject (take (suc k) t)) q))
+          late g = ⊎_elim (λ q. omega (arith, acquired, ap (λ (k : ℕ). depth e.thread e.subject (take (suc k) t)) q))
               (λ q. omega (arith, f.still n (omega arith) (omega arith))) (cases_eq a n)

@@ -1,12 +1,12 @@
 -- The previous event, the last write and the release of an acquire, as functions that compute, and what they should find; and likewise the
 -- previous events of some events, and the listing of a set.
-use Rattle.std.specs.Prelude.{◌≡◌, ℕ, zero, suc, Bool, true, false, cond, ◌-◌, ◌<◌, ◌&&◌, ◌↔◌, List, [], ◌∷◌, length, Some, None, Option, ◌==◌}
+use Rattle.std.specs.Prelude.{◌≡◌, ℕ, zero, suc, Bool, true, false, cond, ◌-◌, ◌<◌, ◌&&◌, ◌↔◌, List, [], ◌∷◌, length, take, Some, None, Option, ◌==◌}
 use mathlib.Core.List.{Memᴰ}
 use Rattle.std.specs.List.{slice_get}
 use Rattle.trace.specs.declared.event.Event.{Event}
 use Rattle.trace.specs.declared.kind.Kind.{Kind}
 use Rattle.trace.specs.declared.kind.Kind.TheVariants.{Read, Write, Acquire, Release, Spawn, Join}
-use Rattle.trace.specs.Traces.{depth_with, Outer, Previous, LastWrite, ReleaseOf}
+use Rattle.trace.specs.Traces.{At, depth_with, depth, Previous, LastWrite, ReleaseOf}
 use Rattle.trace.specs.Reorderings.{Ascending}
 use Rattle.trace.specs.Cuts.{Positions, In, SeedsOf, listed}
 
@@ -99,9 +99,9 @@ freeing thread lock t depth k (suc n) =
     let next = depth_past thread lock depth (slice_get t k) in
     cond (next == 0) (Some k) (freeing thread lock t next (suc k) n)
 
--- where the thread of an outer acquire a next frees the lock of a; what is found for another event means nothing
+-- where the thread of an acquire a next frees the lock of a; what is found for another event means nothing
 abbrev pub release_of : List Event → ℕ → Option ℕ
-release_of t a = from_event (λ e. freeing e.thread e.subject t 1 (suc a) (length t - suc a)) (slice_get t a)
+release_of t a = from_event (λ e. freeing e.thread e.subject t (depth e.thread e.subject (take (suc a) t)) (suc a) (length t - suc a)) (slice_get t a)
 
 -- a lookup finds the position that stands in a relation, and finds none just if there is none
 abbrev pub Finds : Option ℕ → (ℕ → Type 0) → Type 0
@@ -115,9 +115,9 @@ PreviousFound = (t : List Event) (k : ℕ) → Finds (previous t k) (Previous t 
 abbrev pub LastWriteFound : Type 0
 LastWriteFound = (t : List Event) (k : ℕ) → Finds (last_write t k) (LastWrite t k)
 
--- the lookup of releases is right at each outer acquire
+-- the lookup of releases is right at each acquire
 abbrev pub ReleaseFound : Type 0
-ReleaseFound = (t : List Event) (a : ℕ) (e : Event) → Outer t a e → Finds (release_of t a) (ReleaseOf t a)
+ReleaseFound = (t : List Event) (a : ℕ) (e : Event) → At t a e → e.kind ≡ Acquire → Finds (release_of t a) (ReleaseOf t a)
 
 -- the list that is computed of the previous events of some events has just these
 abbrev pub SeedsFound : Type 0

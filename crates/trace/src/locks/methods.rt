@@ -27,7 +27,7 @@ impl Fault for TraceFault {
 
 impl LockTable {
     /// Every lock is free.
-    pub(crate) fn new() -> LockTable
+    pub fn new() -> LockTable
         ensures { (l : ℕ) → holders result l ≡ None }
     {
         LockTable {
@@ -36,7 +36,7 @@ impl LockTable {
     }
 
     /// How deep the thread is in the lock; 0 where it does not hold it.
-    pub(crate) fn depth(&self, thread: u8, lock: u16) -> u8
+    pub fn depth(&self, thread: u8, lock: u16) -> u8
         ensures { result ≡ depth_in (holders self.now lock) thread }
     {
         match self.holders.get(usize::from(lock)) {
@@ -46,7 +46,7 @@ impl LockTable {
     }
 
     /// Lets the event come next, if its lock lets it.
-    pub(crate) fn turn(&mut self, event: &Event) -> Result<(), TraceFault>
+    pub fn turn(&mut self, event: &Event) -> Result<(), TraceFault>
         ensures { LocksTurned self.old event.now result self.new }
     {
         if !event.kind.is_lock() {

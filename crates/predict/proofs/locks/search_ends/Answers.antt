@@ -1,6 +1,7 @@
 -- Each event of the cut comes, or the trace check turns it away and its lock is noted.
 use Rattle.std.proofs.Common.{refl, rules, arith}
 use Rattle.reel.proofs.Left.{passes_some, passes_end}
+use Rattle.predict.proofs.Bounds.{below_length, below_end}
 use Rattle.predict.proofs.Inside.{seen_first}
 use Rattle.predict.proofs.ClashParts.{checked_start, checked_out, checked_in, checked_never, checked_all, clash_ends}
 use Rattle.predict.proofs.locks.search_ends.Goals as goal
@@ -9,7 +10,7 @@ use Rattle.predict.proofs.locks.search_ends.Goals.{else-holds-via-then-holds+the
 pub loop-k-init : goal.loop-k-init
 loop-k-init g c = record {
   none = refl;
-  checked = λ ok. checked_start (g.R.Reel.events c.args.reel.now) c.args.cut.now.bounds c.new-check.result c.new-check.ensures;
+  checked = λ ok. checked_start (g.R.Reel.events c.args.reel.now) c.args.cut.now.bounds c.new-locks.result c.new-locks.ensures;
   next = c.iter-event-items.ensures;
 }
 
@@ -37,11 +38,11 @@ loop-k-preserved g c =
       none = inv.none;
       checked = elim c.else-holds.branch [
         | else-holds-via-then-holds+else-is_err w ↦
-            rw w.check-is (checked_in t bs seen c.loop-k.check inv.checked w.if-holds.true w.turn.new.self w.turn.result w.turn.ensures (search rules))
+            rw w.locks-is (checked_in t bs seen c.loop-k.locks inv.checked w.if-holds.true w.turn.new.self w.turn.result w.turn.ensures (search rules))
         | else-holds-via-then-holds+then-is_err+else-eq w ↦
-            rw w.check-is (checked_never t bs seen c.loop-k.check inv.checked w.if-holds.true w.turn.new.self w.turn.result w.turn.ensures (search rules)
+            rw w.locks-is (checked_never t bs seen c.loop-k.locks inv.checked w.if-holds.true w.turn.new.self w.turn.result w.turn.ensures (search rules)
             (λ acquire. let other = w.if-eq.ensures in absurd (search rules)))
-        | else-holds-via-else-holds w ↦ rw w.check-is (checked_out t bs seen c.loop-k.check inv.checked w.if-holds.false)
+        | else-holds-via-else-holds w ↦ rw w.locks-is (checked_out t bs seen c.loop-k.locks inv.checked w.if-holds.false)
       ];
       next = (passes_some t k e _ _ inv.next c.in-Some.ensures.steps).2;
     }
@@ -49,8 +50,16 @@ loop-k-preserved g c =
 pub returns-in-None : goal.returns-in-None
 returns-in-None g c =
     let t = g.R.Reel.events c.args.reel.now in
+    let bs = c.args.cut.now.bounds in
     let inv = c.loop-k.invariant in
-    rw inv.none (checked_all t c.args.cut.now.bounds c.loop-k.k (passes_end t c.loop-k.k _ inv.next c.in-None.ensures.steps.0) (λ ok. (inv.checked ok).admitted))
+    rw inv.none (checked_all t bs c.loop-k.k (below_length t bs c.loop-k.k (passes_end t c.loop-k.k _ inv.next c.in-None.ensures.steps.0)) (λ ok. (inv.checked ok).admitted))
+
+pub returns-then-k-end : goal.returns-then-k-end
+returns-then-k-end g c =
+    let t = g.R.Reel.events c.args.reel.now in
+    let bs = c.args.cut.now.bounds in
+    let inv = c.loop-k.invariant in
+    rw inv.none (checked_all t bs c.loop-k.k (below_end t bs c.loop-k.k c.end-end.result c.end-end.ensures (omega arith)) (λ ok. (inv.checked ok).admitted))
 
 pub returns-then-eq : goal.returns-then-eq
 returns-then-eq g c =
@@ -59,4 +68,4 @@ returns-then-eq g c =
     let inv = c.loop-k.invariant in
     let seen = seen_first t bs c.loop-k.k c.in-Some.event _ _ inv.next c.in-Some.ensures.steps c.holds.ensures in
     rw (c.from.ensures, inv.none)
-    (clash_ends t bs seen c.loop-k.check inv.checked c.if-holds.true c.turn.new.self c.turn.result c.turn.ensures (search rules) (search rules))
+    (clash_ends t bs seen c.loop-k.locks inv.checked c.if-holds.true c.turn.new.self c.turn.result c.turn.ensures (search rules) (search rules))

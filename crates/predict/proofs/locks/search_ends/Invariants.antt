@@ -11,6 +11,6 @@ invariant-loop-k g l =
     let t = g.R.Reel.events l.reel in
     record {
       none : l.ends ≡ replicate locks 0;
-      checked : Admits t → Checked t l.cut.bounds l.k l.check;
+      checked : Admits t → Checked t l.cut.bounds l.k l.locks;
       next : left_of g.R.Reel.events l.event-iterator ≡ drop l.k t;
     }
