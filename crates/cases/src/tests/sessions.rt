@@ -6,6 +6,7 @@ use answer::verdict::PartnersFault;
 use reel::Reel;
 use reel::board::BoardReel;
 use reel::host::HostReel;
+use session::records::enter_records;
 use session::session::Session;
 use std::process::Abort;
 use std::test::Fail;
@@ -47,6 +48,15 @@ fn loads<R: Reel + Drop>(rt: &impl Abort, reel: R) {
         Some((1, Layer::Record, 1))
     );
     assert_eq!(rt; session.count(), 1);
+    assert_eq!(rt;
+        refused(enter_records(&mut session, &dump)),
+        Some((6, Layer::Trace, 1))
+    );
+    assert_eq!(rt;
+        refused(enter_records(&mut session, &dump[0..12])),
+        Some((1, Layer::Record, 1))
+    );
+    assert_eq!(rt; session.count(), 3);
 }
 
 #[test]
