@@ -8,11 +8,10 @@ ghost use Rattle.lenogneiss.specs.Printed.{status_of};
 use anyhow::{Context, anyhow};
 use clap::ArgMatches;
 use input::STANDARD_INPUT;
-use options::{Asked, SCRIPT, asked_by, command};
+use options::{Asked, NAME, SCRIPT, asked_by, command};
 use program::STORAGE;
-use program::call::{KIT, VERSION};
+use program::call::{KIT, VERSION, called_with};
 use report::told::Finding;
-use std::env;
 use std::process::ExitCode;
 
 mod input;
@@ -72,7 +71,7 @@ fn run(rt: &HostRuntime, words: &ArgMatches<'_>) -> anyhow::Result<ExitCode> {
 /// Does what the command line says, or prints what is asked of the command itself.
 fn called(rt: &HostRuntime) -> anyhow::Result<ExitCode> {
     let heap = rt.alloc();
-    let words: Vec<String> = env::args(rt)?.collect(heap)?;
+    let words: Vec<String> = called_with(heap, rt, NAME)?.collect(heap)?;
     let version = format!(in heap; "{VERSION}\nproved with {KIT}")?;
     match command(heap, version.as_str())?.try_get_matches_from(words.as_slice()) {
         Ok(words) => run(rt, &words),

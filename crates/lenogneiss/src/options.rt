@@ -5,6 +5,9 @@ use anyhow::{Context, anyhow, bail};
 use clap::{Arg, ArgAction, ArgMatches, Command};
 use std::alloc::{AllocError, Global};
 
+/// The name of the command.
+pub(crate) const NAME: &str = "lenogneiss";
+
 const DUMP: &str = "DUMP";
 
 const EXIT_CODE: &str = "exit-code";
@@ -128,7 +131,7 @@ fn witness<'a>(heap: Global) -> Result<Command<'a>, AllocError> {
 
 /// The command line without its commands.
 fn top<'a>(heap: Global, version: &'a str) -> Command<'a> {
-    Command::new(heap, "lenogneiss")
+    Command::new(heap, NAME)
         .version(version)
         .about(ABOUT)
         .after_help(NOTES)

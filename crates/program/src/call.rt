@@ -6,8 +6,10 @@ ghost use Rattle.anyhow.specs.declared.error.Error.{Error};
 ghost use Rattle.program.specs.Statuses.{not_done};
 
 use anyhow::anyhow;
+use std::alloc::Global;
+use std::env::{Args, Env, FillError};
 use std::process::ExitCode;
-use std::{env, fmt};
+use std::{env, fmt, io, str};
 
 /// The version of all programs.
 pub const VERSION: &str = "0.1.0";
@@ -17,6 +19,41 @@ pub const KIT: &str = "rattle-kit-13f logic dac8208d650f15bf";
 
 /// The status of a wrong call, and of what cannot be read or written.
 const NOT_DONE: u8 = 2;
+
+/// The environment of a program, with its own name in the place of one that is no text.
+#[derive(Drop)]
+struct Named<'a, R> {
+    rt: &'a R,
+    name: &'static str,
+}
+
+impl<R: Env> Env for Named<'_, R> {
+    fn arg(&self, index: usize, buffer: &mut [u8]) -> Result<usize, FillError> {
+        let length = self.rt.arg(index, buffer)?;
+        if index > 0 || str::from_utf8(&buffer[..length]).is_ok() {
+            return Ok(length);
+        }
+        let name = self.name.as_bytes();
+        buffer
+            .get_mut(..name.len())
+            .ok_or(FillError::TooLong)?
+            .copy_from_slice(name);
+        Ok(name.len())
+    }
+
+    fn var(&self, name: &str, buffer: &mut [u8]) -> Result<usize, FillError> {
+        self.rt.var(name, buffer)
+    }
+
+    fn var_at(&self, index: usize, buffer: &mut [u8]) -> Result<usize, FillError> {
+        self.rt.var_at(index, buffer)
+    }
+}
+
+/// The words that a program is called with; the first is the name that it is called by, or its own where that is no text.
+pub fn called_with<R: Env>(heap: Global, rt: &R, name: &'static str) -> io::Result<Args> {
+    env::args(&(Named { rt, name }, heap))
+}
 
 /// A program, as it tells of itself.
 #[derive(Clone, Copy)]
@@ -44,7 +81,9 @@ impl Program {
     pub fn words(&self, rt: &HostRuntime) -> anyhow::Result<Option<Vec<String>>>
         ensures { IfOk result (λ asked. IfSome asked (λ words. vec_len words ≤ self.now.most_words)) }
     {
-        let words: Vec<String> = env::args(rt)?.skip(1).collect(rt.alloc())?;
+        let words: Vec<String> = called_with(rt.alloc(), rt, self.name)?
+            .skip(1)
+            .collect(rt.alloc())?;
         if let [word] = words.as_slice() {
             match word.as_str() {
                 "--help" => {
@@ -88,5 +127,50 @@ impl fmt::Display for Program {
             f,
             "usage: {usage}\n\n{prints}\n\n  --help     prints this\n  --version  prints the version, and what it is proved with"
         )
+    }
+}
+
+#[cfg(test)]
+mod tests {
+    use super::called_with;
+    use std::env::{Env, FillError};
+    use std::test::Fail;
+
+    /// Is called by a name that is no text, with one word.
+    struct Unnamed {}
+
+    impl Env for Unnamed {
+        fn arg(&self, index: usize, buffer: &mut [u8]) -> Result<usize, FillError> {
+            let byte = match index {
+                0 => 0xe9,
+                1 => b'w',
+                _ => return Err(FillError::NotPresent),
+            };
+            *buffer.first_mut().ok_or(FillError::TooLong)? = byte;
+            Ok(1)
+        }
+
+        fn var(&self, _name: &str, _buffer: &mut [u8]) -> Result<usize, FillError> {
+            Err(FillError::NotPresent)
+        }
+
+        fn var_at(&self, _index: usize, _buffer: &mut [u8]) -> Result<usize, FillError> {
+            Err(FillError::NotPresent)
+        }
+    }
+
+    #[test]
+    fn has_its_own_name_where_it_is_called_by_no_text(rt: HostRuntime) -> Result<(), Fail> {
+        let words: Vec<String> = called_with(rt.alloc(), &Unnamed {}, "named")?.collect(
+            rt.alloc(),
+        )?;
+        match words.as_slice() {
+            [name, word] => {
+                assert_eq!(rt; name.as_str(), "named");
+                assert_eq!(rt; word.as_str(), "w");
+                Ok(())
+            }
+            _ => Err(Fail::new("not two words")),
+        }
     }
 }
