@@ -1,5 +1,6 @@
 -- What becomes of one record, check by check.
-use Rattle.std.proofs.Common.{◌≡◌, ℕ, List, [], ◌∷◌, Ok, Err, sym, refl, ◌∙◌, append-nil}
+use Rattle.std.proofs.Common.{◌≡◌, ℕ, ◌<◌, ◌≤◌, List, [], ◌∷◌, length, Ok, Err, sym, refl, ◌∙◌, append-nil, arith}
+use Rattle.std.proofs.lemmas.Bool.{le-ltb}
 use Rattle.trace.specs.declared.event.Event.{Event}
 use Rattle.trace.specs.declared.check.TraceCheck.{TraceCheck}
 use Rattle.trace.specs.declared.locks.TraceFault.{TraceFault}
@@ -8,7 +9,9 @@ use Rattle.trace.specs.Traces.{at_start}
 use Rattle.trace.specs.Checks.{Turned}
 use Rattle.trace.proofs.Holders.{admits_push}
 use Rattle.reel.specs.declared.ReelFault.{ReelFault}
+use Rattle.reel.specs.declared.ReelFault.TheVariants.{Full}
 use Rattle.reel.specs.Reels.{Taken}
+use Rattle.reel.proofs.Reels.{has_room}
 use Rattle.answer.specs.declared.fault.EntryFault.{EntryFault}
 use Rattle.answer.specs.declared.fault.EntryFault.TheVariants.{Trace, Reel}
 use Rattle.answer.specs.Faults.{refusal, at_index}
@@ -75,3 +78,17 @@ pub stands_more : (room : ℕ) (t : List Event) (table next : TraceCheck) (e : E
 stands_more room t table next e u s turned taken =
     let q = sym (turned.answer t s.tells) in
     rw taken.events (record { admitted = admits_push at_start t e s.admitted q; tells = turned.tells t s.tells })
+
+-- the trace check lets the event come, and the reel is full
+pub no_more : (s : State) (bytes : List ℕ) (table next : TraceCheck) (e : Event) → Stands table s.trace → Ok e ≡ meaning bytes
+    → Turned table e (Ok tt) next → s.room ≤ length s.trace → Takes (enter s.room s.trace bytes) s bytes (Err (at_index 0 (Reel Full))) s
+no_more s bytes table next e stands means turned full =
+    no_room s.room s.trace s.lent s.loan bytes s.trace s.room s.lent s.loan refl (lent_same s.lent s.trace) refl table stands e means next turned Full
+    (record { answer = rw (le-ltb (length s.trace) s.room full) refl; events = refl })
+
+-- where there is room an event is not refused
+pub refused_room : (room : ℕ) (t : List Event) (e : Event) (f : ReelFault) (u : List Event) → length t < room → Taken {A = Unit {0}} room t e (Err f) u → ⊥
+refused_room room t e f u left taken =
+    let n = has_room room t left in
+    let a = taken.answer in
+    grind arith

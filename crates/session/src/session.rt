@@ -12,7 +12,7 @@ use crate::length::{RECORD_SHIFT, is_whole};
 use crate::records::enter_records;
 use answer::fault::{EntryFault, EntryRefusal};
 use reel::events::Events;
-use reel::{MOST_EVENTS, Reel};
+use reel::{MOST_EVENTS, Reel, ReelFault};
 use std::marker::Model;
 use trace::check::TraceCheck;
 use trace::event::Event;
@@ -70,10 +70,15 @@ impl<R: Reel> Session<R> {
         ensures { let t = self.old.trace in Takes (enter self.old.room t «record».now) self.old «record».now (told (at_index 0) result) self.new }
     {
         let event = decode(record)?;
-        let mut check = self.check;
-        check.turn(&event)?;
+        if self.reel.count() >= self.reel.capacity() {
+            // the trace check comes first, and keeps no event that the reel refuses
+            let kept = self.check;
+            self.check.turn(&event)?;
+            self.check = kept;
+            return Err(EntryFault::from(ReelFault::Full));
+        }
+        self.check.turn(&event)?;
         self.reel.take(event)?;
-        self.check = check;
         Ok(())
     }
 
