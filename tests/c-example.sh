@@ -16,6 +16,13 @@ work=$(mktemp -d)
 trap 'rm -rf "$work"' EXIT
 cc -std=c99 -O2 -pedantic -Wall -Wextra -Werror -Iinclude examples/judge.c "$archive" -o "$work/judge"
 
+# as the header says, of the C library it needs memset alone
+needed=$(nm -u "$archive" | sed -n 's/^ *U //p')
+if [ "$needed" != memset ]; then
+    echo "the archive needs from outside:" $needed
+    exit 1
+fi
+
 # Writes the records of some events to a file. An event is its thread, a letter and its subject: r reads a variable, w writes one, a acquires a
 # lock, z releases one, s spawns a thread, j joins one. Any other letter becomes the kind 9.
 dump() {
