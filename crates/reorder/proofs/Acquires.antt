@@ -13,7 +13,8 @@ use Rattle.trace.specs.declared.kind.Kind.TheVariants.{Read, Acquire, Join}
 use Rattle.trace.specs.declared.check.TraceCheck.{TraceCheck}
 use Rattle.trace.specs.declared.locks.TraceFault.{TraceFault}
 use Rattle.trace.specs.Faults.{trace_number}
-use Rattle.trace.specs.Traces.{At, SpawnOf, depth_at, Outer}
+use Rattle.trace.specs.Traces.{At, SpawnOf, Previous, depth_at, Outer}
+use Rattle.trace.specs.Traces.Previous.{in_thread, by_spawn}
 use Rattle.trace.specs.Depths.{depth_in}
 use Rattle.trace.specs.Reorderings.{picked, Enabled}
 use Rattle.trace.specs.Checks.{standing, Tells, Turned}
@@ -28,6 +29,7 @@ use Rattle.trace.specs.Lookups.{spawns, of_thread}
 use Rattle.trace.proofs.Lookups.{is_spawn, as_spawn}
 use Rattle.predict.proofs.Inside.{tested}
 use Rattle.reorder.proofs.Agreeing.{not_join}
+use Rattle.reorder.proofs.Coming.{ready_from}
 use Rattle.reorder.proofs.Members.{at_index, push_cases}
 
 module _ (t : List Event) (xs : List ℕ) (old : ∥ Reorders t xs ∥₁) (table : TraceCheck) where
@@ -150,6 +152,25 @@ spawned_by t xs k e i = (
       let (kind, names) = is_spawn f e.thread does in
       all m (record { before = b; spawn = f; event = e; spawn_is = j; event_is = i; is_spawn = kind; names = names }),
 )
+
+-- and so with its events, of which a reordering has all where it has the previous event
+pub had_by : (t : List Event) (xs : List ℕ) (k : ℕ) (e : Event) → ∥ Reorders t xs ∥₁ → At t k e
+    → (HasSpawns t xs k e.thread × HasEvents t xs k e.thread) ↔ (((d : ℕ) → Previous t k d → Memᴰ d xs) × ((s : ℕ) → SpawnOf t s k → Memᴰ s xs))
+had_by t xs k e old i = (
+  λ has. (λ d p. previous_had has d p, (spawned_by t xs k e i).0 has.0),
+  λ all. (
+    (spawned_by t xs k e i).1 all.1,
+    λ m b h. let (f, j, does) = tested (of_thread e.thread) (slice_get t m) h in
+        ready_from t xs k old all.0 m (record { before = b; first = f; second = e; first_is = j; second_is = i; same_thread = eqb-true f.thread e.thread does }),
+  ),
+)
+  where
+    own : {f : Event} → At t k f → f.thread ≡ e.thread
+    own {f} j = ap (λ (x : Event). x.thread) (at_same t k f e j i)
+
+    previous_had : HasSpawns t xs k e.thread × HasEvents t xs k e.thread → (d : ℕ) → Previous t k d → Memᴰ d xs
+    previous_had has d (in_thread h none) = has.1 d h.before (rw h.first_is (eq-eqb h.first.thread e.thread (h.same_thread ∙ own h.second_is)))
+    previous_had has d (by_spawn h none none_later) = (spawned_by t xs k e i).0 has.0 d h
 
 -- an acquire that is enabled after the list agrees with the trace where its thread is in the lock, and else just where it comes after the outer ones
 module _ (t : List Event) (xs : List ℕ) (old : ∥ Reorders t xs ∥₁) (table : TraceCheck) (tells : Tells table (picked t xs)) (k : ℕ) (e : Event)

@@ -19,20 +19,21 @@ use Rattle.reorder.proofs.Members.{push_cases, no_place, Place, place}
 use Rattle.reorder.proofs.Members.Place.{last, within}
 
 module _ (t : List Event) where
-  -- after a reordering, an event is enabled if it is new and its previous event is in, and the spawns of its thread
+  -- a reordering that has the previous event of a position has all that its thread does before it
+  pub ready_from : (xs : List ℕ) (k : ℕ) → ∥ Reorders t xs ∥₁ → ((d : ℕ) → Previous t k d → Memᴰ d xs) → (d : ℕ) → EarlierInThread t d k → Memᴰ d xs
+  ready_from xs k old before d h =
+      let (p, previous, earlier, b) = previous_from t d k h in
+      let i = before p previous in
+      let s = stands i in
+      let between : (p ≢ d) → Reorders t xs → Memᴰ d xs = λ n r.
+      of_front s (r.correct.thread_prefix s.front s.back d p s.split (earlier_between t d p k h earlier (omega arith))) in
+      ⊎_elim (λ (q : p ≡ d). subst (λ (m : ℕ). Memᴰ m xs) q i)
+      (λ n. in_member d xs (∥∥₁_elim old (Bool-set (members xs d) true) (λ r. member_in (between n r)))) (cases_eq p d)
+
+  -- after it, an event is enabled if it is new and its previous event is in, and the spawns of its thread
   pub enabled_from : (xs : List ℕ) (k : ℕ) → ∥ Reorders t xs ∥₁ → (Memᴰ k xs → ⊥) → ((d : ℕ) → Previous t k d → Memᴰ d xs)
       → ((s : ℕ) → SpawnOf t s k → Memᴰ s xs) → Enabled t xs k
-  enabled_from xs k old new before spawns = record { outside = new; ready = ready; spawned = spawns }
-    where
-      ready : (d : ℕ) → EarlierInThread t d k → Memᴰ d xs
-      ready d h =
-          let (p, previous, earlier, b) = previous_from t d k h in
-          let i = before p previous in
-          let s = stands i in
-          let between : (p ≢ d) → Reorders t xs → Memᴰ d xs = λ n r.
-          of_front s (r.correct.thread_prefix s.front s.back d p s.split (earlier_between t d p k h earlier (omega arith))) in
-          ⊎_elim (λ (q : p ≡ d). subst (λ (m : ℕ). Memᴰ m xs) q i)
-          (λ n. in_member d xs (∥∥₁_elim old (Bool-set (members xs d) true) (λ r. member_in (between n r)))) (cases_eq p d)
+  enabled_from xs k old new before spawns = record { outside = new; ready = ready_from xs k old before; spawned = spawns }
 
   -- and the previous event of one that is enabled is in
   pub previous_in : {xs : List ℕ} {k d : ℕ} → Enabled t xs k → Previous t k d → Memᴰ d xs

@@ -4,3 +4,4 @@ pub mod Writes
 pub mod Coming
 pub mod Agreeing
 pub mod Acquires
+pub mod Before

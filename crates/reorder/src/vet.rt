@@ -2,18 +2,24 @@
 ghost use Rattle.std.specs.Prelude.{◌≡◌, ℕ, true, ◌↔◌, Some, IsSome, IfSome};
 ghost use Rattle.std.proofs.Props.{props};
 ghost use mathlib.Core.List.{Memᴰ};
-ghost use Rattle.std.specs.List.{slice_get};
 ghost use Rattle.trace.specs.Traces.{At, Previous, SpawnOf};
-ghost use Rattle.trace.specs.Lookups.{fits_here, spawns, of_thread};
+ghost use Rattle.trace.specs.Lookups.{spawns};
 ghost use Rattle.trace.specs.Reorderings.{picked, LatestWrite, Enabled, Leaves};
 ghost use Rattle.trace.specs.Checks.{Tells};
 ghost use Rattle.reorder.specs.Comes.{Reorders, AcquiredBefore, HasSpawns, HasEvents, Agrees, Answered};
 
-use predict::lookup::{is_write_at, last_write, previous};
+use predict::lookup::{is_write_at, last_write};
 use reel::Reel;
 use trace::check::TraceCheck;
 use trace::event::Event;
 use trace::kind::Kind;
+
+/// Whether the event spawns the thread.
+fn is_spawn_of(event: Event, thread: u16) -> bool
+    ensures { result ≡ spawns thread event }
+{
+    event.kind == Kind::Spawn && event.subject == thread
+}
 
 /// A list of positions that is a sync-preserving correct reordering of the reel's trace, and what the trace check keeps after its events.
 #[derive(Drop)]
@@ -50,64 +56,30 @@ impl<'a, R: Reel> Reordering<'a, R> {
         self.list.iter().any(|k| position == usize::from(*k))
     }
 
-    /// Whether the previous event of the position, if there is one, stands in the list.
+    /// Whether each spawn and each event of the thread before the position stands in the list.
+    fn has_before(&self, position: usize, thread: u16) -> bool
+        ensures { let t = R.Reel.events self.now.reel.now in (result ≡ true)
+            ↔ (HasSpawns t self.now.list.now position thread × HasEvents t self.now.list.now position thread) }
+    {
+        for earlier in (0..position).rev() {
+            match self.reel.event(earlier) {
+                // with an event a reordering has the spawns and the events of its thread before it
+                Some(event) if u16::from(event.thread) == thread => return self.has(earlier),
+                Some(event) if is_spawn_of(event, thread) && !self.has(earlier) => return false,
+                _ => (),
+            }
+        }
+        true
+    }
+
+    /// Whether the previous event of the position, if there is one, stands in the list, and each spawn of its thread.
     fn has_previous(&self, position: usize) -> bool
         ensures { let t = R.Reel.events self.now.reel.now in (result ≡ true)
-            ↔ ((d : ℕ) → Previous t position d → Memᴰ d self.now.list.now) }
-    {
-        match previous(self.reel, position) {
-            Some(earlier) => self.has(earlier),
-            None => true,
-        }
-    }
-
-    /// Whether there is a spawn of the thread at the position.
-    fn is_spawn(&self, position: usize, thread: u16) -> bool
-        ensures { let t = R.Reel.events self.now.reel.now in result ≡ fits_here (spawns thread) (slice_get t position) }
-    {
-        self.reel.event(position).is_some_and(|event| event.kind == Kind::Spawn
-            && event.subject == thread)
-    }
-
-    /// Whether there is an event of the thread at the position.
-    fn is_of_thread(&self, position: usize, thread: u16) -> bool
-        ensures { let t = R.Reel.events self.now.reel.now in result ≡ fits_here (of_thread thread) (slice_get t position) }
-    {
-        self.reel
-            .event(position)
-            .is_some_and(|event| u16::from(event.thread) == thread)
-    }
-
-    /// Whether each spawn of the thread before the position stands in the list.
-    fn has_spawns(&self, position: usize, thread: u16) -> bool
-        ensures { let t = R.Reel.events self.now.reel.now in (result ≡ true) ↔ HasSpawns t self.now.list.now position thread }
-    {
-        for earlier in 0..position {
-            if self.is_spawn(earlier, thread) && !self.has(earlier) {
-                return false;
-            }
-        }
-        true
-    }
-
-    /// Whether each event of the thread before the position stands in the list.
-    fn has_events(&self, position: usize, thread: u16) -> bool
-        ensures { let t = R.Reel.events self.now.reel.now in (result ≡ true) ↔ HasEvents t self.now.list.now position thread }
-    {
-        for earlier in 0..position {
-            if self.is_of_thread(earlier, thread) && !self.has(earlier) {
-                return false;
-            }
-        }
-        true
-    }
-
-    /// Whether each spawn of the thread of the position, if that has an event, stands in the list.
-    fn is_spawned(&self, position: usize) -> bool
-        ensures { let t = R.Reel.events self.now.reel.now in (result ≡ true) ↔ ((s : ℕ) → SpawnOf t s position → Memᴰ s self.now.list.now) }
+            ↔ (((d : ℕ) → Previous t position d → Memᴰ d self.now.list.now)
+            × ((s : ℕ) → SpawnOf t s position → Memᴰ s self.now.list.now)) }
     {
         match self.reel.event(position) {
-            Some(event) => self.has_spawns(position, u16::from(event.thread)),
+            Some(event) => self.has_before(position, u16::from(event.thread)),
             None => true,
         }
     }
@@ -116,7 +88,7 @@ impl<'a, R: Reel> Reordering<'a, R> {
     fn is_enabled(&self, position: usize) -> bool
         ensures { let t = R.Reel.events self.now.reel.now in (result ≡ true) ↔ Enabled t self.now.list.now position }
     {
-        !self.has(position) && self.has_previous(position) && self.is_spawned(position)
+        !self.has(position) && self.has_previous(position)
     }
 
     /// Whether each of the events is enabled after the list.
@@ -172,9 +144,7 @@ impl<'a, R: Reel> Reordering<'a, R> {
                 self.check.depth(event.thread, event.subject) > 0
                     || self.acquired_before(position, event.subject)
             }
-            Kind::Join => {
-                self.has_spawns(position, event.subject) && self.has_events(position, event.subject)
-            }
+            Kind::Join => self.has_before(position, event.subject),
             Kind::Write | Kind::Release | Kind::Spawn => true,
         }
     }

@@ -1,5 +1,5 @@
 use Rattle.std.proofs.Common.{refl, arith}
-use Rattle.std.proofs.lemmas.Bool.{both_ways}
+use mathlib.Core.Logic.Iff
 use Rattle.reorder.proofs.Agreeing.{read_agrees}
 use Rattle.reorder.proofs.Acquires.{inner_agrees, outer_agrees, other_agrees, join_agrees}
 use Rattle.reorder.proofs.vet.Reordering.agrees.Goals as goal
@@ -21,17 +21,10 @@ returns-else-depth-gt0 g c = λ is enabled.
     outer_agrees (g.R.Reel.events s.reel.now) s.list.now s.reorders s.check s.told c.args.position c.args.event.now c.in-Acquire.is is enabled
     c.acquired_before.result (omega (arith, c.depth.ensures, c.if-depth-gt0.false)) c.acquired_before.ensures
 
-pub returns-then-has_spawns : goal.returns-then-has_spawns
-returns-then-has_spawns g c = λ is enabled.
+pub returns-in-Join : goal.returns-in-Join
+returns-in-Join g c = λ is enabled.
     let s = c.args.self.now in
-    let same = join_agrees (g.R.Reel.events s.reel.now) s.list.now c.args.position c.args.event.now is c.in-Join.is in
-    (λ q. same.0 (c.has_spawns.ensures.0 c.if-has_spawns.true, c.has_events.ensures.0 q), λ a. c.has_events.ensures.1 (same.1 a).1)
-
-pub returns-else-has_spawns : goal.returns-else-has_spawns
-returns-else-has_spawns g c = λ is enabled.
-    let s = c.args.self.now in
-    let same = join_agrees (g.R.Reel.events s.reel.now) s.list.now c.args.position c.args.event.now is c.in-Join.is in
-    (λ q. absurd (both_ways c.has_spawns.result c.if-has_spawns.false q), λ a. c.has_spawns.ensures.1 (same.1 a).0)
+    Iff.trans c.has_before.ensures (join_agrees (g.R.Reel.events s.reel.now) s.list.now c.args.position c.args.event.now is c.in-Join.is)
 
 pub returns-in-Write : goal.returns-in-Write
 returns-in-Write g c = λ is enabled.

@@ -1,6 +1,0 @@
--- Those before the position so far are in the list.
-use Rattle.reorder.specs.Comes.{HasEvents}
-use Rattle.reorder.proofs.vet.Reordering.has_events.Given as goal
-
-abbrev pub invariant-loop-earlier : goal.invariant-loop-earlier
-invariant-loop-earlier g l = HasEvents (g.R.Reel.events l.self.reel.now) l.self.list.now l.earlier l.thread
