@@ -1,7 +1,9 @@
 //! Decides whether a list of positions is a sync-preserving correct reordering of a trace.
-ghost use Rattle.std.specs.Prelude.{◌≡◌, ℕ, true, ◌↔◌, Some, IsSome, IfSome};
+ghost use Rattle.std.specs.Prelude.{◌≡◌, ℕ, ◌<◌, true, ◌↔◌, Some, IsSome, IfSome};
 ghost use Rattle.std.proofs.Props.{props};
 ghost use mathlib.Core.List.{Memᴰ};
+ghost use Rattle.trace.specs.declared.event.Event.{Event};
+ghost use Rattle.trace.specs.declared.kind.Kind.TheVariants.{Acquire};
 ghost use Rattle.trace.specs.Traces.{At, Previous, SpawnOf};
 ghost use Rattle.trace.specs.Lookups.{spawns};
 ghost use Rattle.trace.specs.Reorderings.{picked, LatestWrite, Enabled, Leaves};
@@ -110,10 +112,36 @@ impl<'a, R: Reel> Reordering<'a, R> {
             .find(|position| is_write_at(self.reel, *position, variable))
     }
 
+    /// Whether the first position, if it has an acquire of the lock, stands before the other.
+    fn is_acquired_before(&self, acquire: usize, position: usize, lock: u16) -> bool
+        ensures { let t = R.Reel.events self.now.reel.now in (result ≡ true)
+            ↔ ((e : Event) → At t acquire e → e.kind ≡ Acquire → e.subject ≡ lock → acquire < position) }
+    {
+        if acquire < position {
+            return true;
+        }
+        match self.reel.event(acquire) {
+            Some(event) if event.kind == Kind::Acquire => event.subject != lock,
+            _ => true,
+        }
+    }
+
+    /// Whether the acquires of the lock in the list, inner ones too, stand before the position.
+    fn all_acquired_before(&self, position: usize, lock: u16) -> bool
+        ensures { let t = R.Reel.events self.now.reel.now in (result ≡ true) ↔ ((a : ℕ) → Memᴰ a self.now.list.now
+            → (e : Event) → At t a e → e.kind ≡ Acquire → e.subject ≡ lock → a < position) }
+    {
+        self.list.iter().all(|k| self.is_acquired_before(usize::from(*k), position, lock))
+    }
+
     /// Whether the outer acquires of the lock in the list stand before the position.
     fn acquired_before(&self, position: usize, lock: u16) -> bool
         ensures { let t = R.Reel.events self.now.reel.now in (result ≡ true) ↔ AcquiredBefore t self.now.list.now position lock }
     {
+        // only where some acquire does not, it has to be told which are outer
+        if self.all_acquired_before(position, lock) {
+            return true;
+        }
         let mut check = TraceCheck::new();
         for k in self.list.iter() {
             let acquire = usize::from(*k);

@@ -7,6 +7,10 @@ use Rattle.reorder.proofs.Acquires.{not_before, before_more, no_acquire, tells_m
 use Rattle.reorder.proofs.vet.Reordering.acquired_before.Goals as goal
 use Rattle.reorder.proofs.vet.Reordering.acquired_before.Goals.{in-Some+else-eq, else-eq-via-then-eq+then-event-lock+then-acquire-position+else-depth-eq0, else-eq-via-then-eq+then-event-lock+else-acquire-position, else-eq-via-then-eq+else-event-lock, else-eq-via-else-eq, in_default}
 
+pub returns-then-all_acquired_before : goal.returns-then-all_acquired_before
+returns-then-all_acquired_before g c =
+    (λ q a m e outer lock. c.all_acquired_before.ensures.0 c.if-all_acquired_before.true a m e outer.is outer.is_acquire lock, λ all. refl)
+
 pub loop-k-init : goal.loop-k-init
 loop-k-init g c = record { tells = c.new-check.ensures; before = λ m i. absurd (Memᴰ.not-nil i) }
 
