@@ -5,6 +5,8 @@ use mathlib.Core.List.{Memᴰ}
 use mathlib.Core.Bool.{Bool-set}
 use Rattle.std.proofs.lemmas.Bool.{cases_eq}
 use Rattle.std.proofs.Math.Logic.{∥∥₁_elim}
+use Rattle.std.proofs.Props.{props}
+use Rattle.std.proofs.lemmas.Grind.{merely}
 use Rattle.trace.specs.declared.event.Event.{Event}
 use Rattle.trace.specs.declared.kind.Kind.TheVariants.{Read}
 use Rattle.trace.specs.Traces.{At, Outer, EarlierInThread, SpawnOf, AwaitedSpawn, AwaitedEvent, Previous, LastWrite}
@@ -117,6 +119,10 @@ module _ (t : List Event) where
     -- with a position that may come next it stays one
     pub reorders_next : Reorders t (xs ++ (k ∷ []))
     reorders_next = record { correct = correct_next; sync = sync_next }
+
+  -- so where it is known to be one
+  pub reorders_more : (xs : List ℕ) (k : ℕ) → ∥ Reorders t xs ∥₁ → Comes t xs k → ∥ Reorders t (xs ++ (k ∷ [])) ∥₁
+  reorders_more xs k old next = ∥∥₁_elim old (hlevel props) (λ r. merely (reorders_next xs k r next))
 
   -- and each of its positions may come next after those before it
   pub comes_at : {k : ℕ} {σ : List ℕ} → Reorders t σ → (s : Stands k σ) → Comes t s.front k

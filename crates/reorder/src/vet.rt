@@ -1,5 +1,5 @@
 //! Decides whether a list of positions is a sync-preserving correct reordering of a trace.
-ghost use Rattle.std.specs.Prelude.{◌≡◌, ℕ, ◌<◌, true, ◌↔◌, Some, IsSome, IfSome};
+ghost use Rattle.std.specs.Prelude.{◌≡◌, ℕ, ◌<◌, true, cond, ◌↔◌, [], ◌∷◌, ◌++◌, Some, None, IsSome, IfSome};
 ghost use Rattle.std.proofs.Props.{props};
 ghost use mathlib.Core.List.{Memᴰ};
 ghost use Rattle.trace.specs.declared.event.Event.{Event};
@@ -39,16 +39,17 @@ impl<'a, R: Reel> Reordering<'a, R> {
         ensures decided { let t = R.Reel.events reel.now in IsSome result ↔ Reorders t list.now }
         ensures same { IfSome result (λ r. (r.reel.now ≡ reel.now) × (r.list.now ≡ list.now)) }
     {
-        let mut check = TraceCheck::new();
+        let mut so_far = Reordering {
+            reel,
+            list: &list[..0],
+            check: TraceCheck::new(),
+        };
         for (i, position) in list.iter().enumerate() {
-            let so_far = Reordering {
-                reel,
-                list: &list[..i],
-                check,
-            };
-            check = so_far.check_with(usize::from(*position))?;
+            if !so_far.goes_on(usize::from(*position), &list[..=i]) {
+                return None;
+            }
         }
-        Some(Reordering { reel, list, check })
+        Some(so_far)
     }
 
     /// Whether the position stands in the list.
@@ -177,17 +178,25 @@ impl<'a, R: Reel> Reordering<'a, R> {
         }
     }
 
-    /// What the trace check keeps after the event at the position too, if it may come next.
-    fn check_with(&self, position: usize) -> Option<TraceCheck>
-        ensures { let t = R.Reel.events self.now.reel.now in Answered t self.now.list.now position result }
+    /// Whether the position may come next. The longer list, which has it behind the others, is then the list.
+    fn goes_on(&mut self, position: usize, longer: &'a [u16]) -> bool
+        requires { longer.now ≡ self.old.list.now ++ (position ∷ []) }
+        ensures answered { let t = R.Reel.events self.old.reel.now in
+            Answered t self.old.list.now position (cond result (Some self.new.check) None) }
+        ensures same { self.new.reel.now ≡ self.old.reel.now }
+        ensures longer { result ≡ true → self.new.list.now ≡ longer.now }
     {
-        let event = self.reel.event(position)?;
-        if !self.is_enabled(position) || !self.agrees(position, &event) {
-            return None;
+        let Some(event) = self.reel.event(position) else {
+            return false;
+        };
+        if !self.is_enabled(position)
+            || !self.agrees(position, &event)
+            || self.check.turn(&event).is_err()
+        {
+            return false;
         }
-        let mut check = self.check;
-        check.turn(&event).ok()?;
-        Some(check)
+        self.list = longer;
+        true
     }
 }
 
