@@ -64,6 +64,9 @@ pub dump_lengths : DumpLengths
 dump_lengths room t = (refl, λ dump h. rw h refl)
 
 pub last_room : LastRoom
-last_room t e f many allowed next =
-    let full : length (t ++ (e ∷ [])) ≡ 1024 = length-append t (e ∷ []) ∙ rw many refl in
-    (rw (record_means e, allowed, many) refl, rw (record_means f, next, full) refl)
+last_room = (
+  λ t e f many allowed next.
+      let full : length (t ++ (e ∷ [])) ≡ 1024 = length-append t (e ∷ []) ∙ rw many refl in
+      (rw (record_means e, allowed, many) refl, rw (record_means f, next, full) refl),
+  λ t e allowed. (λ h. rw (record_means e, allowed, h) refl, λ h. rw (record_means e, allowed, h) refl),
+)

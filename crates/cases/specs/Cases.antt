@@ -193,8 +193,11 @@ DumpLengths =
     (room : ℕ) (t : List Event)
     → (load room t [] ≡ record { answer = Ok 0; events = t }) × ((dump : List ℕ) → length dump ≡ 17 → load room t dump ≡ refused t 1 Record 2)
 
--- over a board reel, an event that the trace check allows is taken as the 1,024th, and one that it allows then is refused with 7
+-- over a board reel, an event that the trace check allows is taken as the 1,024th, and one that it allows then is refused with 7; and so is one
+-- that it allows behind any 1,024 events
 abbrev pub LastRoom : Type 0
 LastRoom =
-    (t : List Event) (e f : Event) → length t ≡ 1023 → Allowed (standing_after t) e → let u = t ++ (e ∷ []) in Allowed (standing_after u) f
-    → (enter board_room t (record_of e) ≡ taken t e) × (enter board_room u (record_of f) ≡ refused u 7 Reel 0)
+    ((t : List Event) (e f : Event) → length t ≡ 1023 → Allowed (standing_after t) e → let u = t ++ (e ∷ []) in Allowed (standing_after u) f
+    → (enter board_room t (record_of e) ≡ taken t e) × (enter board_room u (record_of f) ≡ refused u 7 Reel 0))
+    × ((t : List Event) (e : Event) → Allowed (standing_after t) e
+    → (length t ≡ 1023 → enter board_room t (record_of e) ≡ taken t e) × (length t ≡ 1024 → enter board_room t (record_of e) ≡ refused t 7 Reel 0))
