@@ -2,6 +2,7 @@
 ghost use Rattle.std.specs.Prelude.{IfOk, Some, string_bytes};
 ghost use Rattle.trace.specs.Faults.{told};
 ghost use Rattle.answer.specs.Faults.{pair_number};
+ghost use Rattle.session.specs.Questions.{Answers, Unordered, Schedulable, Vetted};
 ghost use Rattle.report.specs.Answers.{answer_text, three_lines, Answered};
 
 use answer::fault::PairFault;
@@ -13,7 +14,7 @@ use trace::fault::Fault;
 
 /// An answer in a word, or the number of the refusal.
 #[derive(Clone, Copy)]
-struct Answer(Result<bool, PairFault>);
+pub(crate) struct Answer(pub(crate) Result<bool, PairFault>);
 
 impl fmt::Display for Answer {
     ghost output = { λ a. Some (answer_text (told pair_number a.0)) };
@@ -32,10 +33,25 @@ impl fmt::Display for Answer {
 
 /// The three answers, a line each.
 #[derive(Clone, Copy)]
-struct AnswerLines {
-    unordered: Answer,
+pub(crate) struct AnswerLines {
+    pub(crate) unordered: Answer,
     schedulable: Answer,
     vet: Answer,
+}
+
+impl AnswerLines {
+    /// The answers about p, q and a list, each of them asked for once.
+    pub(crate) fn of<R: Reel>(session: &Session<R>, p: usize, q: usize, list: &[u16]) -> AnswerLines
+        ensures unordered { let t = session.now.trace in Answers t p q (Unordered t p q) result.unordered.0 }
+        ensures schedulable { let t = session.now.trace in Answers t p q (Schedulable t p q) result.schedulable.0 }
+        ensures vet { let t = session.now.trace in Answers t p q (Vetted t p q list.now) result.vet.0 }
+    {
+        AnswerLines {
+            unordered: Answer(session.unordered(p, q)),
+            schedulable: Answer(session.schedulable(p, q)),
+            vet: Answer(session.vet(p, q, list)),
+        }
+    }
 }
 
 impl fmt::Display for AnswerLines {
@@ -63,10 +79,5 @@ pub fn answers<R: Reel>(
 ) -> Result<String, AllocError>
     ensures { IfOk result (λ s. Answered session.now.trace p q list.now (string_bytes s)) }
 {
-    let lines = AnswerLines {
-        unordered: Answer(session.unordered(p, q)),
-        schedulable: Answer(session.schedulable(p, q)),
-        vet: Answer(session.vet(p, q, list)),
-    };
-    lines.to_string(heap)
+    AnswerLines::of(session, p, q, list).to_string(heap)
 }

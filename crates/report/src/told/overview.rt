@@ -4,7 +4,7 @@ ghost use Rattle.reel.specs.Stored.{room_for};
 ghost use Rattle.report.specs.Told.{ToldOf, ListingTold, AnswersTold};
 
 use crate::listing::listing;
-use crate::questions::answers;
+use crate::questions::AnswerLines;
 use crate::told::{Finding, Question, Told, told_in};
 use reel::Reel;
 use session::session::Session;
@@ -44,12 +44,15 @@ impl Question for Orders<'_> {
     ghost Says = { λ it t s f. AnswersTold t it.p it.q it.list.now s f };
 
     fn tell<R: Reel>(&self, heap: Global, session: &Session<R>) -> Result<Told, AllocError> {
-        let finding = match session.unordered(self.p, self.q) {
+        let lines = AnswerLines::of(session, self.p, self.q, self.list);
+        let finding = match lines.unordered.0 {
             Ok(_) => Finding::Nothing,
             Err(_) => Finding::Refused,
         };
-        let text = answers(heap, session, self.p, self.q, self.list)?;
-        Ok(Told { text, finding })
+        Ok(Told {
+            text: lines.to_string(heap)?,
+            finding,
+        })
     }
 }
 
