@@ -114,13 +114,13 @@ reply_lines calls = flat_map reply_line calls
 abbrev pub told_line : List ℕ → Call → List ℕ
 told_line words call = codes "> " ++ (words ++ (codes "\n" ++ reply_line call))
 
--- the same of calls and their words, one after another, as far as there are both
+-- the same of calls and their words, one after another; a call behind the last words has its line alone
 abbrev pub told_lines : List (Bor (List ℕ)) → List Call → List ℕ
-told_lines [] calls = []
+told_lines [] calls = reply_lines calls
 told_lines (w ∷ words) [] = []
 told_lines (w ∷ words) (c ∷ calls) = told_line w.now c ++ told_lines words calls
 
--- the text has the words of these calls and their lines, as they come back from a run that keeps the promise over whole runs
+-- the text has the words of these calls and their lines, a line for each, as they come back from a run that keeps the promise over whole runs
 pub record Told (room : ℕ) (words : List (Bor (List ℕ))) (calls : List Call) (text : List ℕ) : Type 0 where
   pub back : List Call
   pub upheld : Upholds room calls back

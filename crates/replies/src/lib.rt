@@ -262,23 +262,23 @@ pub fn reply_lines(heap: Global, calls: &[Call]) -> Result<String, AllocError>
     Texts(calls).to_string(heap)
 }
 
-/// The lines of calls, each below the words that stand for it in a script.
+/// The lines of calls, each below the words that stand for it in a script, where there are some.
 fn told_lines(heap: Global, words: &[&str], calls: &[Call]) -> Result<String, AllocError>
     ensures { IfOk result (λ s. string_bytes s ≡ told_lines words.now calls.now) }
 {
     let mut text = String::new(heap);
     for (index, call) in calls.iter().enumerate() {
-        let Some(words) = words.get(index) else {
-            break;
-        };
         let line = Line(call);
-        write!(text, "> {words}\n{line}")?;
+        match words.get(index) {
+            Some(words) => write!(text, "> {words}\n{line}")?,
+            None => write!(text, "{line}")?,
+        }
     }
     Ok(text)
 }
 
 /// Performs the calls of a script one after another on a session that is opened over a host reel in `size` bytes, which are made here, and
-/// returns their lines, each below the words of the call.
+/// returns their lines, each below the words of the call, where there are some.
 pub fn told_in(
     heap: Global,
     size: usize,

@@ -4,4 +4,4 @@ use Rattle.replies.specs.Replies.{told_lines}
 use Rattle.replies.proofs.told_lines.Given as goal
 
 abbrev pub invariant-loop-index : goal.invariant-loop-index
-invariant-loop-index l = string_bytes l.text ≡ told_lines (take l.index l.words) (take l.index l.calls)
+invariant-loop-index l = string_bytes l.text ≡ told_lines l.words (take l.index l.calls)
