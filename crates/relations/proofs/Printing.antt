@@ -14,7 +14,7 @@ use Rattle.session.specs.Questions.Answers.{refused}
 use Rattle.session.specs.Races.{PartnersOf, RacingPair, pair}
 use Rattle.session.proofs.Asked.{asked}
 use Rattle.run.specs.declared.Call.{Call}
-use Rattle.run.specs.declared.Call.TheVariants.{Judge}
+use Rattle.run.specs.declared.Call.TheVariants.{Enter, Load, Judge, Witness, Partners, Sweep}
 use Rattle.run.specs.Runs.{Upholds}
 use Rattle.report.specs.Reports.{pairs_line, RaceLines, SweepLines, Reported}
 use Rattle.report.specs.Reports.RaceLines.{none, more}
@@ -29,11 +29,11 @@ use Rattle.report.specs.Told.FindsRaces.{race as finds_race, none as finds_none}
 use Rattle.report.specs.Witnesses.{WitnessTold, found_among, PartnersTold}
 use Rattle.report.specs.Witnesses.WitnessTold.{shown as told_shown, no_race as witness_no_race}
 use Rattle.report.specs.Witnesses.PartnersTold.{refused as told_past, found as told_found}
-use Rattle.replies.specs.Replies.{told_lines}
+use Rattle.replies.specs.Replies.{reply_line, reply_lines, told_lines}
 use Rattle.cases.specs.Examples.{three_accesses}
 use Rattle.cases.specs.Cases.{three_pairs}
 use Rattle.cases.proofs.Sweeping.{three_swept}
-use Rattle.relations.specs.Texts.{first, second, third, three_races, three_reported, cut_record, three_refusals, LineOfPair, AllLines, PairsReported, RecordsReported, CutReported, NothingReported, RefusalsAnswered, RecordsAnswered, RaceTold, WitnessShown, PartnersListed, RacesFound, LineTold}
+use Rattle.relations.specs.Texts.{first, second, third, three_races, three_reported, cut_record, three_refusals, LineOfPair, AllLines, PairsReported, RecordsReported, CutReported, NothingReported, RefusalsAnswered, RecordsAnswered, RaceTold, WitnessShown, PartnersListed, RacesFound, LineTold, LineAlone}
 use Rattle.relations.proofs.Racing.{least_shown}
 use Rattle.relations.proofs.Partnering.{both_partners}
 use Rattle.relations.proofs.Running.{empty_upheld}
@@ -191,4 +191,35 @@ pub line_told : LineTold
 line_told room w = (
   record { back = Judge 0 1 (Some (Err NoEvent)) ∷ []; upheld = (empty_upheld room).0; text_is = refl },
   λ h. no_text room w h.back h.upheld h.text_is,
+)
+
+-- the line of a call is not empty
+line_stands : (c : Call) (rest : List ℕ) → [] ≡ reply_line c ++ rest → ⊥
+line_stands (Enter bytes None) rest e = grind arith
+line_stands (Enter bytes (Some (Ok r))) rest e = grind arith
+line_stands (Enter bytes (Some (Err r))) rest e = grind arith
+line_stands (Load bytes None) rest e = grind arith
+line_stands (Load bytes (Some (Ok r))) rest e = grind arith
+line_stands (Load bytes (Some (Err r))) rest e = grind arith
+line_stands (Judge p q None) rest e = grind arith
+line_stands (Judge p q (Some (Ok r))) rest e = grind arith
+line_stands (Judge p q (Some (Err r))) rest e = grind arith
+line_stands (Witness p q buffer None) rest e = grind arith
+line_stands (Witness p q buffer (Some (Ok r))) rest e = grind arith
+line_stands (Witness p q buffer (Some (Err r))) rest e = grind arith
+line_stands (Partners q buffer None) rest e = grind arith
+line_stands (Partners q buffer (Some (Ok r))) rest e = grind arith
+line_stands (Partners q buffer (Some (Err r))) rest e = grind arith
+line_stands (Sweep buffer None) rest e = grind arith
+line_stands (Sweep buffer (Some (Ok r))) rest e = grind arith
+line_stands (Sweep buffer (Some (Err r))) rest e = grind arith
+
+no_line_alone : (room : ℕ) (ys : List Call) → Upholds room (Judge 0 1 None ∷ []) ys → [] ≡ told_lines [] ys → ⊥
+no_line_alone room [] u e = let m = u.many in omega arith
+no_line_alone room (y ∷ ys) u e = line_stands y (reply_lines ys) e
+
+pub line_alone : LineAlone
+line_alone room = (
+  record { back = Judge 0 1 (Some (Err NoEvent)) ∷ []; upheld = (empty_upheld room).0; text_is = refl },
+  λ h. no_line_alone room h.back h.upheld h.text_is,
 )

@@ -17,7 +17,7 @@ use Rattle.report.specs.Refusals.{refused_record}
 use Rattle.report.specs.Texts.{events_line, refusal_line}
 use Rattle.report.specs.Told.{ToldOf, AnswersTold, VerdictTold, FindsRaces}
 use Rattle.report.specs.Witnesses.{witness_text, WitnessTold, partners_text, PartnersTold}
-use Rattle.replies.specs.Replies.{told_line, Told}
+use Rattle.replies.specs.Replies.{reply_lines, told_line, Told}
 use Rattle.cases.specs.Examples.{event, three_accesses}
 
 -- the three accesses
@@ -110,3 +110,10 @@ LineTold =
     (room : ℕ) (w : Bor (List ℕ))
     → let told : List ℕ → Type 0 = Told room (w ∷ []) (Judge 0 1 None ∷ []) in
     told (told_line w.now (Judge 0 1 (Some (Err NoEvent))) ++ []) × (told [] → ⊥)
+
+-- the line of the answer stands alone where there are no words for its call; wrong: the empty text
+abbrev pub LineAlone : Type 0
+LineAlone =
+    (room : ℕ)
+    → let told : List ℕ → Type 0 = Told room [] (Judge 0 1 None ∷ []) in
+    told (reply_lines (Judge 0 1 (Some (Err NoEvent)) ∷ [])) × (told [] → ⊥)

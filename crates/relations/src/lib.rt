@@ -18,7 +18,7 @@ ghost use Rattle.relations.specs.Races.{PairsThatRace, BothPartners, AcquireAlon
 ghost use Rattle.relations.specs.Runs.{VerdictSays, ListSays, FullServed, CutServed, VerdictServed, EmptyUpheld, EnteredStays};
 ghost use Rattle.relations.specs.Runs.{RaceOnceEntered, VerdictStays, WitnessAgrees, WitnessStays};
 ghost use Rattle.relations.specs.Texts.{LineOfPair, AllLines, PairsReported, RecordsReported, CutReported, NothingReported, RefusalsAnswered};
-ghost use Rattle.relations.specs.Texts.{RecordsAnswered, RaceTold, WitnessShown, PartnersListed, RacesFound, LineTold};
+ghost use Rattle.relations.specs.Texts.{RecordsAnswered, RaceTold, WitnessShown, PartnersListed, RacesFound, LineTold, LineAlone};
 
 /// Traces, what the trace check keeps, and reels.
 pub fn traces()
@@ -79,5 +79,5 @@ pub fn runs()
 /// The texts that the programs print.
 pub fn texts()
     ensures { LineOfPair × AllLines × PairsReported × RecordsReported × CutReported × NothingReported × RefusalsAnswered
-        × RecordsAnswered × RaceTold × WitnessShown × PartnersListed × RacesFound × LineTold }
+        × RecordsAnswered × RaceTold × WitnessShown × PartnersListed × RacesFound × LineTold × LineAlone }
 {}
