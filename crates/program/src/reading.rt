@@ -5,6 +5,9 @@ ghost use Rattle.program.specs.Reading.{Fills, LeavesBehind};
 use std::alloc::Global;
 use std::io::{self, ErrorKind, Read};
 
+/// How many bytes are read at a time.
+const PIECE: usize = 1 << 14;
+
 /// Fills the buffer from the input as far as that goes; answers how many bytes it read.
 fn fill<I: Read>(input: &mut I, buffer: &mut [u8]) -> io::Result<usize>
     ensures { IfOk result (λ n. Fills (I.remaining input.old) (I.remaining input.new) n buffer.new) }
@@ -32,9 +35,16 @@ pub fn read_front<I: Read>(heap: Global, input: &mut I, most: usize) -> io::Resu
     ensures front { IfOk result (λ front. IfSome (I.remaining input.old) (λ bytes. vec_items front ≡ take most bytes)) }
     ensures left { OnOk result (LeavesBehind (I.remaining input.old) most (I.remaining input.new)) }
 {
-    let mut front = vec![in heap; 0u8; most]?;
-    let filled = fill(input, front.as_mut_slice())?;
-    front.truncate(filled);
+    let mut piece = [0u8; PIECE];
+    let mut front = Vec::new(heap);
+    while front.len() < most {
+        let wanted = PIECE.min(most - front.len());
+        let filled = fill(input, &mut piece[..wanted])?;
+        front.extend_from_slice(&piece[..filled])?;
+        if filled < wanted {
+            break;
+        }
+    }
     Ok(front)
 }
 
