@@ -63,6 +63,7 @@ fn show(rt: &HostRuntime) -> anyhow::Result<ExitCode> {
         None => Ok(ExitCode::SUCCESS),
         Some(trace) => {
             println!(rt; "the first trace on which answers differ:{trace}")?;
+            let _ = eprintln!(rt; "Error: answers differ");
             Ok(ExitCode::FAILURE)
         }
     }
