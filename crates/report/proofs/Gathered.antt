@@ -1,6 +1,7 @@
 -- The partners of a position, gathered in a buffer as long as the trace.
-use Rattle.std.proofs.Common.{◌≡◌, ℕ, ◌+◌, ◌-◌, ◌<◌, ◌≤◌, List, [], ◌∷◌, length, take, drop, Ok, Err, Result, sym, refl, ◌∙◌, subst, arith, length-append}
+use Rattle.std.proofs.Common.{◌≡◌, ℕ, ◌+◌, ◌-◌, ◌<◌, ◌≤◌, List, [], ◌∷◌, length, take, drop, Option, Some, None, Ok, Err, Result, unwrap_or, sym, refl, ◌∙◌, subst, arith, length-append, Bor}
 use mathlib.Core.List.{Memᴰ}
+use Rattle.std.specs.Slice.{IsGetRangeResult}
 use Rattle.std.proofs.lemmas.List.{take_at}
 use Rattle.trace.specs.declared.event.Event.{Event}
 use Rattle.trace.specs.Reorderings.{Ascending}
@@ -49,3 +50,8 @@ module _ {t : List Event} {q : ℕ} where
           let (n, ok, within, partners) = answered places partnered in
           let same : n ≡ m = grind arith in
           (omega arith, subst (λ (k : ℕ). PartnersOf t q (take k after)) same partners)
+
+-- a part from the start of a list
+pub front_part : (xs : List ℕ) (n : ℕ) (o : Option (Bor (List ℕ))) (d : Bor (List ℕ)) → IsGetRangeResult xs 0 n o → n ≤ length xs → (unwrap_or o d).now ≡ take n xs
+front_part xs n None d part inside = let z = part.1 (omega arith, inside) in absurd (grind arith)
+front_part xs n (Some x) d part inside = let all : n - 0 ≡ n = omega arith in part.0.2 ∙ rw all refl

@@ -1,5 +1,5 @@
 -- The lines of racing pairs, one pair more at a time.
-use Rattle.std.proofs.Common.{◌≡◌, ℕ, ◌+◌, ◌<◌, List, [], ◌∷◌, ◌++◌, map, length, get_or, take, Some, None, sym, append_assoc, append-nil, arith}
+use Rattle.std.proofs.Common.{◌≡◌, ℕ, ◌+◌, ◌<◌, List, [], ◌∷◌, ◌++◌, map, length, get_or, take, Some, None, sym, refl, append_assoc, append-nil, arith}
 use Rattle.std.specs.List.{slice_get}
 use Rattle.std.proofs.lemmas.List.{map_more}
 use Rattle.trace.specs.declared.event.Event.{Event}
@@ -26,6 +26,18 @@ module _ (t : List Event) where
     -- a partner and q have events
     partner_asked : (i : ℕ) → i < length ps → Asked t (get_or ps i 0) q
     partner_asked i inside = let p = get_or ps i 0 in asked t p q (sym ((partners.exact p).0 (in_list ps i inside)).0)
+
+    -- so where q has none, there are no partners
+    pub lines_nowhere : slice_get t q ≡ None → RaceLines t (map (λ p. pair p q) ps) []
+    lines_nowhere missing = by ps refl
+      where
+        by : (xs : List ℕ) → ps ≡ xs → RaceLines t (map (λ p. pair p q) xs) []
+        by [] is = none
+        by (x ∷ xs) is =
+            let a = partner_asked 0 (rw is (omega arith)) in
+            let i = a.second_is in
+            let z : ◌≡◌ {A = ℕ} 0 1 = cc in
+            absurd (omega arith)
 
     -- the next partner has an event
     pub partner_event : (i p : ℕ) → i < length ps → p ≡ get_or ps i 0 → None ≡ slice_get t p → ⊥
