@@ -18,12 +18,12 @@ use Rattle.reorder.proofs.Members.Place.{last, within}
 
 module _ (t : List Event) (x : ℕ) where
   -- among no positions there is none
-  no_latest_write : (w : ℕ) → LatestWrite t [] x w → ⊥
+  pub no_latest_write : (w : ℕ) → LatestWrite t [] x w → ⊥
   no_latest_write w l = no_place l.front l.back w l.stands
 
   module _ (xs : List ℕ) (k : ℕ) where
     -- a write at the end is the latest
-    latest_write_here : true ≡ fits_here (writes x) (slice_get t k) → (w : ℕ) → (Some k ≡ Some w) ↔ LatestWrite t (xs ++ (k ∷ [])) x w
+    pub latest_write_here : true ≡ fits_here (writes x) (slice_get t k) → (w : ℕ) → (Some k ≡ Some w) ↔ LatestWrite t (xs ++ (k ∷ [])) x w
     latest_write_here h w = (λ q. subst (LatestWrite t (xs ++ (k ∷ [])) x) (cc) new, λ l. only l (place xs k l.front w l.back l.stands))
       where
         new : LatestWrite t (xs ++ (k ∷ [])) x k
@@ -48,7 +48,7 @@ module _ (t : List Event) (x : ℕ) where
             new.same_variable)
 
     -- another event at the end leaves it
-    latest_write_skip : false ≡ fits_here (writes x) (slice_get t k) → (w : ℕ) → LatestWrite t xs x w ↔ LatestWrite t (xs ++ (k ∷ [])) x w
+    pub latest_write_skip : false ≡ fits_here (writes x) (slice_get t k) → (w : ℕ) → LatestWrite t xs x w ↔ LatestWrite t (xs ++ (k ∷ [])) x w
     latest_write_skip h w = (longer, λ l. shorter l (place xs k l.front w l.back l.stands))
       where
         no_write : (m : ℕ) (e : Event) → m ≡ k → At t m e → e.kind ≡ Write → e.subject ≡ x → ⊥
