@@ -44,7 +44,7 @@ pub last_write_of_variable : LastWriteOfVariable
 last_write_of_variable = found_alone _ _ (last_write_found read_between 2) 1 0 refl (λ e. omega arith)
 
 pub release_of_thread : ReleaseOfThread
-release_of_thread = found_alone _ _ (release_found sections_between 1 (event Acquire 0 0 tt tt) (record { is = refl; is_acquire = refl; outside = refl })) 2 4 refl (λ e. omega arith)
+release_of_thread = found_alone _ _ (release_found sections_between 1 (event Acquire 0 0 tt tt) refl refl) 2 4 refl (λ e. omega arith)
 
 pub release_frees : ReleaseFrees
 release_frees = (
@@ -55,7 +55,7 @@ release_frees = (
 )
   where
     frees : ReleaseOf inner_section 0 4 × (ReleaseOf inner_section 0 2 → ⊥)
-    frees = found_alone _ _ (release_found inner_section 0 (event Acquire 0 0 tt tt) (record { is = refl; is_acquire = refl; outside = refl })) 4 2
+    frees = found_alone _ _ (release_found inner_section 0 (event Acquire 0 0 tt tt) refl refl) 4 2
         refl (λ e. omega arith)
 
     inner_one : At inner_section 1 (event Acquire 0 0 tt tt) → depth_at inner_section 1 (event Acquire 0 0 tt tt) ≡ 0 → ⊥

@@ -92,7 +92,7 @@ module _ (c : Positions) where
     first_in = first_in i;
     second_in = second_in j;
     order = lit< tt;
-    release = ((release_found writes_locked 0 (event Acquire 0 0 tt tt) (first_in i).outer).0 2).0 refl;
+    release = ((release_found writes_locked 0 (event Acquire 0 0 tt tt) refl refl).0 2).0 refl;
   }
 
 pub halves_of_sync : HalvesOfSync
