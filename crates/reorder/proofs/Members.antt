@@ -3,13 +3,11 @@ use Rattle.std.proofs.Common.{◌≡◌, ℕ, suc, ◌+◌, ◌<◌, Bool, true,
 use mathlib.Core.List.Memᴰ
 use mathlib.Core.List.{Memᴰ}
 use Rattle.std.specs.Bool.{MatchBool}
-use Rattle.std.specs.List.{list_any, list_all, AllWithin, HoldsAt, Contains}
-use Rattle.std.proofs.lemmas.Bool.{false≢true, eqb-true}
+use Rattle.std.specs.List.{list_all, AllWithin, HoldsAt, Contains, IsAnyAnswer}
+use Rattle.std.proofs.lemmas.Bool.{false≢true, both_ways, eqb-true, eq-eqb}
 use Rattle.std.proofs.lemmas.List.{drop_more}
 use Rattle.std.proofs.lemmas.List.Elements.{All-contains}
 use Rattle.std.proofs.lemmas.List.Sums.{AllPass-from_list_all, list_all-from_AllPass}
-use Rattle.std.proofs.lemmas.Map.Views.{Contains-from_any, list_any-from_Contains}
-use Rattle.std.proofs.lemmas.Cmp.{nat_eq_equiv}
 use Rattle.trace.proofs.Places.{Stands, at_split, is_member}
 
 -- an index is a place in the list
@@ -29,11 +27,12 @@ has_index (Memᴰ.tail i) = let (k, b, is) = has_index i in (suc k, omega arith,
 pub push_cases : {m k : ℕ} (xs : List ℕ) → Memᴰ m (xs ++ (k ∷ [])) → Memᴰ m xs ⊎ (m ≡ k)
 push_cases xs i = ⊎_elim inl (λ j. inr (Memᴰ.eq_of_singleton j)) (Memᴰ.append_cases xs i)
 
--- some member equals k just if k is a member
-pub has_member : (k : ℕ) (xs : List ℕ) → (list_any (eqb k) xs ≡ true) ↔ Memᴰ k xs
-has_member k xs = (
-  λ q. let (i, b, is) = Contains-from_any (λ x y. eqb-true x y) k xs q in subst (λ m. Memᴰ m xs) is (is_member (at_index xs i k b)),
-  λ i. list_any-from_Contains nat_eq_equiv k xs (has_index i),
+-- an answer by cases on whether some member equals k is whether k is a member
+pub has_told : (k : ℕ) (xs : List ℕ) (r : Bool) → IsAnyAnswer (λ m b. eqb m k ≡ b) xs r → (r ≡ true) ↔ Memᴰ k xs
+has_told k xs true (i, b, same) = (λ q. subst (λ m. Memᴰ m xs) (eqb-true (get_or xs i 0) k (same 0)) (in_list xs i b), λ j. refl)
+has_told k xs false none = (
+  λ q. absurd (false≢true q),
+  λ j. absurd (both_ways (eqb k k) (All-contains (λ m. eqb m k ≡ false) xs k (λ i d b. none i d (omega arith) b) (has_index j)) (eq-eqb k k refl)),
 )
 
 -- a test that tells of each position whether P holds passes each member just if P holds of each

@@ -56,7 +56,10 @@ impl<'a, R: Reel> Reordering<'a, R> {
     fn has(&self, position: usize) -> bool
         ensures { (result ≡ true) ↔ Memᴰ position self.now.list.now }
     {
-        self.list.iter().any(|k| position == usize::from(*k))
+        match u16::try_from(position) {
+            Ok(k) => self.list.contains(&k),
+            Err(_) => false,
+        }
     }
 
     /// Whether each spawn and each event of the thread before the position stands in the list.
