@@ -7,16 +7,16 @@ use Rattle.trace.specs.declared.event.Event.{Event}
 use Rattle.trace.specs.declared.hold.Hold.{Hold}
 use Rattle.trace.specs.declared.kind.Kind.{Kind}
 use Rattle.trace.specs.declared.kind.Kind.TheVariants.{Read, Write, Acquire, Release, Spawn, Join}
-use Rattle.trace.specs.Limits.{locks}
-use Rattle.trace.specs.Traces.{At, Standing, at_start, entered, left, turn, after_event, after, standing_after, Admits, Outer, ReleaseOf, deeper}
+use Rattle.trace.specs.Limits.{on_lock, locks}
+use Rattle.trace.specs.Traces.{At, Standing, at_start, entered, left, turn, after_event, after, standing_after, lock_refusal, Admits, depth_at, Outer, ReleaseOf, deeper}
 use Rattle.trace.specs.Depths.{depth_in}
 use Rattle.trace.specs.Lookups.{release_of}
 use Rattle.trace.specs.Cuts.{In}
-use Rattle.trace.proofs.Holders.{admits_take}
+use Rattle.trace.proofs.Holders.{lets, admits_take}
 use Rattle.trace.proofs.Depths.{Deep, held_as_deep, held_deep}
 use Rattle.trace.proofs.Sections.{take_next, take_past}
 use Rattle.trace.proofs.Lookups.{release_found}
-use Rattle.trace.proofs.Releases.{free_before}
+use Rattle.trace.proofs.Releases.{allowed_in, free_before}
 use Rattle.predict.specs.Held.{held, lacks, Misses}
 use Rattle.predict.specs.Parts.{AcquireIn, Enough, LockWants, SettledBefore, acquiring, acquires, fits_inside, lock_depth_with, lock_depth_past}
 use Rattle.predict.proofs.Finding.{deeper_no_more}
@@ -152,6 +152,25 @@ module _ (t : List Event) (ok : Admits t) where
 
   outer_free : (k : ℕ) (e : Event) → Outer t k e → lock_depth e.subject (take k t) ≡ 0
   outer_free k e o = sym (lock_held e.subject (take k t)) ∙ ap hold_depth (free_before t k e ok o)
+
+  -- where an event is on a lock, that is held as deep as the thread of the event is in it
+  own_hold : (x : Kind) (p : ℕ) (o : Option Hold) → on_lock x ≡ true → lock_refusal x p o ≡ None → hold_depth o ≡ depth_in o p
+  own_hold x p None a q = refl
+  own_hold Read p (Some h) a q = absurd (grind arith)
+  own_hold Write p (Some h) a q = absurd (grind arith)
+  own_hold Spawn p (Some h) a q = absurd (grind arith)
+  own_hold Join p (Some h) a q = absurd (grind arith)
+  own_hold Acquire p (Some h) a q =
+      ⊎_elim (λ own. rw (eq-eqb h.thread p own) refl) (λ n. absurd (let z = rw (ne_eqb h.thread p n) at q in grind arith)) (cases_eq h.thread p)
+  own_hold Release p (Some h) a q =
+      ⊎_elim (λ own. rw (eq-eqb h.thread p own) refl) (λ n. absurd (let z = rw (ne_eqb h.thread p n) at q in grind arith)) (cases_eq h.thread p)
+
+  pub own_depth : (k : ℕ) (e : Event) → At t k e → on_lock e.kind ≡ true → lock_depth e.subject (take k t) ≡ depth_at t k e
+  own_depth k e i on =
+      let hold = (standing_after (take k t)).holders e.subject in
+      sym (lock_held e.subject (take k t))
+      ∙ own_hold e.kind e.thread hold on (lets (standing_after (take k t)) e (allowed_in t k e ok i)).lock
+      ∙ held_as_deep (take k t) (admits_take t k ok) e.thread e.subject
 
   module _ (bs : List ℕ) where
     -- the tests of a position tell whether it is an outer acquire of the lock in the cut
