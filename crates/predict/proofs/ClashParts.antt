@@ -9,13 +9,14 @@ use Rattle.trace.specs.declared.kind.Kind.{Kind}
 use Rattle.trace.specs.declared.kind.Kind.TheVariants.{Read, Write, Acquire, Release, Spawn, Join}
 use Rattle.trace.specs.declared.locks.LockTable.{LockTable}
 use Rattle.trace.specs.declared.locks.TraceFault.{TraceFault}
-use Rattle.trace.specs.Limits.{locks}
+use Rattle.trace.specs.Limits.{on_lock, locks}
 use Rattle.trace.specs.Faults.{trace_number, refusal_in}
 use Rattle.trace.specs.Traces.{standing_after, lock_refusal, Allowed, Admits}
 use Rattle.trace.specs.Locks.{holders, LocksTurned}
 use Rattle.trace.specs.Reorderings.{picked}
 use Rattle.trace.specs.Cuts.{In, Closed, listed}
 use Rattle.trace.proofs.Faults.{ok_refuses_none}
+use Rattle.trace.proofs.LockTables.{turned_off}
 use Rattle.trace.proofs.Holders.{lets}
 use Rattle.trace.proofs.Events.{at_inside}
 use Rattle.trace.proofs.Places.{Stands, at_split, stands, of_front}
@@ -123,6 +124,15 @@ module _ (t : List Event) (bs : List ℕ) where
         enough = λ ok settled.
             absurd (clash ok fails (rw (get_or-set_same (replicate locks 0) e.subject (k + 1) 0 (few acquire)) at (settled e.subject)));
       }
+
+  -- an event that is on no lock, inside or outside
+  pub checked_off : {k : ℕ} {e : Event} {b : Bool} (seen : Seen t bs k e b) (table : LockTable) → (Admits t → Checked k table) → on_lock e.kind ≡ false
+      → Admits t → Checked (k + 1) table
+  checked_off {k = k} {e = e} {b = b} seen table known off = of_test b refl
+    where
+      of_test : (x : Bool) → b ≡ x → Admits t → Checked (k + 1) table
+      of_test true i = checked_in seen table known i table (Ok tt) (turned_off table e off) refl
+      of_test false i = checked_out seen table known i
 
   -- where the pass comes to an end, the cut wants no release
   checked_closed : (k : ℕ) → Below t bs k → Admits (picked t (listed (held t bs) k)) → Closed LockWants t (held t bs)

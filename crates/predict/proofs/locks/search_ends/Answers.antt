@@ -1,11 +1,11 @@
 -- Each event of the cut comes, or the trace check turns it away and its lock is noted.
-use Rattle.std.proofs.Common.{refl, rules, arith}
+use Rattle.std.proofs.Common.{refl, sym, rules, arith}
 use Rattle.reel.proofs.Left.{passes_some, passes_end}
 use Rattle.predict.proofs.Bounds.{below_length, below_end}
 use Rattle.predict.proofs.Inside.{seen_first}
-use Rattle.predict.proofs.ClashParts.{checked_start, checked_out, checked_in, checked_never, checked_all, clash_ends}
+use Rattle.predict.proofs.ClashParts.{checked_start, checked_out, checked_in, checked_never, checked_off, checked_all, clash_ends}
 use Rattle.predict.proofs.locks.search_ends.Goals as goal
-use Rattle.predict.proofs.locks.search_ends.Goals.{else-holds-via-then-holds+then-is_err+else-eq, else-holds-via-then-holds+else-is_err, else-holds-via-else-holds}
+use Rattle.predict.proofs.locks.search_ends.Goals.{else-is_lock-via-then-is_lock+then-holds+then-is_err+else-eq, else-is_lock-via-then-is_lock+then-holds+else-is_err, else-is_lock-via-then-is_lock+else-holds, else-is_lock-via-else-is_lock}
 
 pub loop-k-init : goal.loop-k-init
 loop-k-init g c = record {
@@ -33,16 +33,17 @@ loop-k-preserved g c =
     let k = c.loop-k.k in
     let e = c.in-Some.event in
     let inv = c.loop-k.invariant in
-    let seen = seen_first t bs k e _ _ inv.next c.in-Some.ensures.steps c.holds.ensures in
+    let seen = seen_first t bs k e _ _ inv.next c.in-Some.ensures.steps refl in
     record {
       none = inv.none;
-      checked = elim c.else-holds.branch [
-        | else-holds-via-then-holds+else-is_err w ↦
-            rw w.locks-is (checked_in t bs seen c.loop-k.locks inv.checked w.if-holds.true w.turn.new.self w.turn.result w.turn.ensures (search rules))
-        | else-holds-via-then-holds+then-is_err+else-eq w ↦
-            rw w.locks-is (checked_never t bs seen c.loop-k.locks inv.checked w.if-holds.true w.turn.new.self w.turn.result w.turn.ensures (search rules)
+      checked = elim c.else-is_lock.branch [
+        | else-is_lock-via-then-is_lock+then-holds+else-is_err w ↦
+            rw w.locks-is (checked_in t bs seen c.loop-k.locks inv.checked (sym w.if-holds.ensures) w.turn.new.self w.turn.result w.turn.ensures (search rules))
+        | else-is_lock-via-then-is_lock+then-holds+then-is_err+else-eq w ↦
+            rw w.locks-is (checked_never t bs seen c.loop-k.locks inv.checked (sym w.if-holds.ensures) w.turn.new.self w.turn.result w.turn.ensures (search rules)
             (λ acquire. let other = w.if-eq.ensures in absurd (search rules)))
-        | else-holds-via-else-holds w ↦ rw w.locks-is (checked_out t bs seen c.loop-k.locks inv.checked w.if-holds.false)
+        | else-is_lock-via-then-is_lock+else-holds w ↦ rw w.locks-is (checked_out t bs seen c.loop-k.locks inv.checked (sym w.if-holds.ensures))
+        | else-is_lock-via-else-is_lock w ↦ rw w.locks-is (checked_off t bs seen c.loop-k.locks inv.checked (sym w.if-is_lock.ensures))
       ];
       next = (passes_some t k e _ _ inv.next c.in-Some.ensures.steps).2;
     }
@@ -66,6 +67,6 @@ returns-then-eq g c =
     let t = g.R.Reel.events c.args.reel.now in
     let bs = c.args.cut.now.bounds in
     let inv = c.loop-k.invariant in
-    let seen = seen_first t bs c.loop-k.k c.in-Some.event _ _ inv.next c.in-Some.ensures.steps c.holds.ensures in
+    let seen = seen_first t bs c.loop-k.k c.in-Some.event _ _ inv.next c.in-Some.ensures.steps refl in
     rw (c.from.ensures, inv.none)
-    (clash_ends t bs seen c.loop-k.locks inv.checked c.if-holds.true c.turn.new.self c.turn.result c.turn.ensures (search rules) (search rules))
+    (clash_ends t bs seen c.loop-k.locks inv.checked (sym c.if-holds.ensures) c.turn.new.self c.turn.result c.turn.ensures (search rules) (search rules))
