@@ -1,5 +1,5 @@
 -- What an iterator's search finds: the latest event before a position.
-use Rattle.std.proofs.Common.{◌≡◌, ℕ, zero, suc, ◌+◌, ◌-◌, ◌<◌, ◌≤◌, Bool, true, false, cond, eqb, ◌&&◌, List, [], ◌∷◌, length, take, Some, None, Option, MatchOption, Bor, sym, refl, ap, ◌∙◌, subst, add-one, arith}
+use Rattle.std.proofs.Common.{◌≡◌, ℕ, zero, suc, ◌+◌, ◌-◌, ◌<◌, ◌≤◌, Bool, true, false, cond, eqb, ◌&&◌, List, [], ◌∷◌, length, Some, None, Option, MatchOption, Bor, sym, refl, ap, ◌∙◌, subst, add-one, arith}
 use Rattle.std.specs.Fn.{Mut, CalledAt}
 use Rattle.std.specs.Iterator.{FindsItem}
 use Rattle.std.specs.Iterator.Adapters.{rev_steps}
@@ -12,10 +12,10 @@ use Rattle.std.proofs.lemmas.Bool.{cond-true, cond-false, eq-eqb, ne_eqb}
 use Rattle.trace.specs.declared.event.Event.{Event}
 use Rattle.trace.specs.declared.kind.Kind.{Kind}
 use Rattle.trace.specs.declared.kind.Kind.TheVariants.{Read, Write, Acquire, Release, Spawn, Join}
-use Rattle.trace.specs.Traces.{At, deeper, depth, Outer}
-use Rattle.trace.proofs.Events.{at_same}
+use Rattle.trace.specs.Traces.{At, deeper, Outer}
 use Rattle.trace.proofs.Sections.{outer_after}
 use Rattle.trace.specs.Lookups.{fits_here, latest, reading, of_thread, writes, from_event, previous, last_write, depth_past, freeing, release_of, spawns, or_found}
+use Rattle.predict.specs.Parts.{outer_release_of}
 
 module _ (fits : Event → Bool) (t : List Event) where
   -- the latest before the next position is k, if its event fits, and else the latest before k
@@ -62,15 +62,16 @@ found_either (Some x) p r q = q
 pub write_search : (t : List Event) (k : ℕ) (e : Event) → At t k e → e.kind ≡ Read → last_write t k ≡ latest (writes e.subject) t k
 write_search t k e i read = rw i (cond-true (reading e.kind) (latest (writes e.subject) t k) None (ap reading read))
 
+-- a thread is once in a lock after an outer acquire, so the search from there finds the release
+pub outer_release : (t : List Event) (a : ℕ) (e : Event) → Outer t a e → outer_release_of t a ≡ release_of t a
+outer_release t a e o = rw o.is (ap (λ n. freeing e.thread e.subject t n (suc a) (length t - suc a)) (sym (outer_after t a e o)))
+
 -- the search for a release goes on event by event: it starts behind the acquire,
 module _ (t : List Event) where
-  pub release_start : (a : ℕ) (e : Event) → Some e ≡ slice_get t a → (f : Event) → Outer t a f
-      → release_of t a ≡ freeing e.thread e.subject t 1 (a + 1) (length t - (a + 1))
-  release_start a e i f o =
-      let same : f ≡ e = at_same t a f e o.is (sym i) in
-      let once : depth e.thread e.subject (take (suc a) t) ≡ 1 = subst (λ (g : Event). depth g.thread g.subject (take (suc a) t) ≡ 1) same (outer_after t a f o) in
-      rw add-one (ap (from_event (λ g. freeing g.thread g.subject t (depth g.thread g.subject (take (suc a) t)) (suc a) (length t - suc a))) (sym i)
-      ∙ ap (λ n. freeing e.thread e.subject t n (suc a) (length t - suc a)) once)
+  pub release_start : (a : ℕ) (e : Event) → Some e ≡ slice_get t a
+      → outer_release_of t a ≡ freeing e.thread e.subject t 1 (a + 1) (length t - (a + 1))
+  release_start a e i =
+      rw add-one (ap (from_event (λ f. freeing f.thread f.subject t 1 (suc a) (length t - suc a))) (sym i))
 
   module _ (p l depth k next : ℕ) (is : next ≡ depth_past p l depth (slice_get t k)) where
     split : (n m : ℕ) → n ≡ suc m → freeing p l t depth k n ≡ cond (eqb next 0) (Some k) (freeing p l t next (suc k) m)

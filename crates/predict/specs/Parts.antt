@@ -1,11 +1,11 @@
 -- The parts of the rules.
-use Rattle.std.specs.Prelude.{◌≡◌, ℕ, ◌<◌, ◌≤◌, Bool, true, false, ◌&&◌, cond, List, length, Some, None, Option, ◌==◌, slice_index, slice_index_or}
+use Rattle.std.specs.Prelude.{◌≡◌, ℕ, suc, ◌-◌, ◌<◌, ◌≤◌, Bool, true, false, ◌&&◌, cond, List, length, Some, None, Option, ◌==◌, slice_index, slice_index_or}
 use Rattle.std.specs.List.{slice_get}
 use Rattle.trace.specs.declared.event.Event.{Event}
 use Rattle.trace.specs.declared.kind.Kind.{Kind}
 use Rattle.trace.specs.declared.kind.Kind.TheVariants.{Read, Write, Acquire, Release, Spawn, Join}
 use Rattle.trace.specs.Limits.{locks}
-use Rattle.trace.specs.Lookups.{fits_here, of_thread, spawns, or_found}
+use Rattle.trace.specs.Lookups.{fits_here, of_thread, spawns, or_found, from_event, freeing}
 use Rattle.trace.specs.Orders.{ReleaseBefore}
 use Rattle.trace.specs.Traces.{Admits, deeper, Outer, LastWrite, ReleaseOf}
 use Rattle.trace.specs.Cuts.{Positions, In, Closed}
@@ -27,6 +27,10 @@ acquires l e = acquiring e.kind && e.subject == l
 -- whether t has an event at k that fits and lies below the bound of its thread
 abbrev pub fits_inside : (Event → Bool) → List Event → List ℕ → ℕ → Bool
 fits_inside fits t bounds k = fits_here (λ e. fits e && below bounds k e) (slice_get t k)
+
+-- where the thread of an outer acquire a, which is once in the lock of a after a, next frees it; what is found so for another event means nothing
+abbrev pub outer_release_of : List Event → ℕ → Option ℕ
+outer_release_of t a = from_event (λ e. freeing e.thread e.subject t 1 (suc a) (length t - suc a)) (slice_get t a)
 
 -- w is the last write of a read of the cut
 pub record ReadWants (t : List Event) (c : Positions) (w : ℕ) : Type 0 where

@@ -5,7 +5,7 @@ ghost use Rattle.trace.specs.Traces.{deeper, Outer};
 ghost use Rattle.trace.specs.Lookups.{fits_here, latest, of_thread, spawns, writes, depth_past, previous, last_write, release_of};
 ghost use Rattle.std.specs.List.{slice_get};
 ghost use Rattle.predict.specs.Held.{held, lacks};
-ghost use Rattle.predict.specs.Parts.{acquires};
+ghost use Rattle.predict.specs.Parts.{acquires, outer_release_of};
 
 use crate::cut::Cut;
 use reel::Reel;
@@ -105,9 +105,10 @@ pub fn last_write<R: Reel>(reel: &R, position: usize) -> Option<usize>
         .find(|earlier| is_write_at(reel, *earlier, read.subject))
 }
 
-/// Where the thread of the outer acquire at a position next frees its lock.
+/// Where the thread of the outer acquire at a position next frees its lock; what it finds at another position means nothing.
 pub(crate) fn release_of<R: Reel>(reel: &R, position: usize) -> Option<usize>
-    ensures { let t = R.Reel.events reel.now in ((e : Event) → Outer t position e → result ≡ release_of t position) }
+    ensures found { let t = R.Reel.events reel.now in result ≡ outer_release_of t position }
+    ensures outer { let t = R.Reel.events reel.now in ((e : Event) → Outer t position e → result ≡ release_of t position) }
 {
     let acquire = reel.event(position)?;
     let mut depth = 1;
@@ -134,4 +135,41 @@ pub fn is_outside<R: Reel>(reel: &R, cut: &Cut, position: usize) -> bool
 {
     reel.event(position)
         .is_some_and(|event| !cut.holds(position, &event))
+}
+
+#[cfg(test)]
+mod tests {
+    use super::release_of;
+    use reel::Reel;
+    use reel::board::BoardReel;
+    use std::test::Fail;
+    use trace::kind::Kind;
+    use trace::record::event_of;
+
+    #[test]
+    fn releases_are_found(rt: HostRuntime) -> Result<(), Fail> {
+        let mut reel = BoardReel::new();
+        for kind in [
+            Kind::Acquire,
+            Kind::Acquire,
+            Kind::Release,
+            Kind::Release,
+            Kind::Write,
+            Kind::Acquire,
+            Kind::Release,
+            Kind::Acquire,
+        ] {
+            reel.take(event_of(kind, 0, 0, 0)?)?;
+        }
+        // at outer acquires the release that frees the lock,
+        assert_eq!(rt; release_of(&reel, 0), Some(3));
+        assert_eq!(rt; release_of(&reel, 5), Some(6));
+        assert!(rt; release_of(&reel, 7).is_none());
+        // and at other positions where the same count ends
+        assert_eq!(rt; release_of(&reel, 1), Some(2));
+        assert_eq!(rt; release_of(&reel, 2), Some(3));
+        assert!(rt; release_of(&reel, 4).is_none());
+        assert!(rt; release_of(&reel, 8).is_none());
+        Ok(())
+    }
 }
